@@ -1,0 +1,5 @@
+pub mod Pieces
+pub mod Cuts
+pub mod Prefix
+pub mod LineLaws
+pub mod RuleLaws

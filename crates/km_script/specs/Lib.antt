@@ -1,0 +1,4 @@
+pub mod Left
+pub mod Built
+pub mod Words
+pub mod Keywords

@@ -1,0 +1,19 @@
+//! Reads the lines of a script.
+#![tactic(auto)]
+
+mod commands;
+mod file;
+mod keywords;
+mod line;
+mod numbers;
+mod operands;
+mod rows;
+mod rules;
+mod words;
+
+pub use file::file_command;
+pub use km_model::{Base, Command, Line, NotACommand, Operand, RegName};
+pub use line::read_line;
+
+#[cfg(test)]
+mod tests;

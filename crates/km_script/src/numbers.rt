@@ -1,0 +1,32 @@
+//! Numbers in a range.
+
+ghost use Rattle.std.specs.Prelude.{◌≡◌};
+ghost use Rattle.km_model.specs.Grammar.{memory_size as memory_size_of, number as number_of, number_within as number_of_range};
+
+use km_base::read_number;
+
+/// The least and the greatest number of words that a memory can have.
+const LEAST_MEMORY: u64 = 512;
+
+const GREATEST_MEMORY: u64 = 4_194_304;
+
+/// A number of at most 64 bits.
+pub fn number(word: &[u8]) -> Option<u64>
+    ensures { result ≡ number_of word.now }
+{
+    read_number(word).ok()
+}
+
+/// A number from `low` to `high`.
+pub fn number_within(low: u64, high: u64, word: &[u8]) -> Option<u64>
+    ensures { result ≡ number_of_range low high word.now }
+{
+    number(word).filter(|n| low <= *n && *n <= high)
+}
+
+/// A number of words that a memory can have: whole pages.
+pub fn memory_size(word: &[u8]) -> Option<u64>
+    ensures { result ≡ memory_size_of word.now }
+{
+    number_within(LEAST_MEMORY, GREATEST_MEMORY, word).filter(|n| *n % 512 == 0)
+}

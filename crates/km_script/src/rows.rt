@@ -1,0 +1,259 @@
+//! How the words behind each command's first word are read.
+
+ghost use Rattle.std.specs.Prelude.{◌≡◌};
+ghost use Rattle.km_base.specs.Names.{name_of};
+ghost use Rattle.km_model.specs.Grammar.{allocation, alone, any_word, file_command as file_command_of, memory_size, number, number_within, one_word, operand, register_of, two_words};
+ghost use Rattle.km_model.specs.declared.lines.Command.TheVariants as command;
+
+use crate::file::file_command;
+use crate::words::Words;
+use km_model::{Base, Command, NotACommand, Operand};
+
+/// The longest time that a line lets pass, in milliseconds.
+const LONGEST_TICK: u64 = 3_600_000;
+
+/// The most steps that a line makes.
+const MOST_STEPS: u64 = 1_000_000;
+
+/// `memory W`
+pub fn memory(words: &mut Words) -> Result<Command, NotACommand>
+    ensures { result ≡ one_word memory_size words.old.end words.old.pieces command.Memory }
+{
+    let size = words.only_memory_size()?;
+    Ok(Command::Memory(size))
+}
+
+/// `section NAME W`
+pub fn section(words: &mut Words) -> Result<Command, NotACommand>
+    ensures { result ≡ two_words name_of number words.old.end words.old.pieces command.Section }
+{
+    let name = words.name()?;
+    let size = words.only_number()?;
+    Ok(Command::Section { name, words: size })
+}
+
+/// `task NAME`
+pub fn task(words: &mut Words) -> Result<Command, NotACommand>
+    ensures { result ≡ one_word name_of words.old.end words.old.pieces command.Task }
+{
+    let name = words.only_name()?;
+    Ok(Command::Task(name))
+}
+
+/// `exit NAME`
+pub fn exit(words: &mut Words) -> Result<Command, NotACommand>
+    ensures { result ≡ one_word name_of words.old.end words.old.pieces command.Exit }
+{
+    let name = words.only_name()?;
+    Ok(Command::Exit(name))
+}
+
+/// `set REG VAL`
+pub fn set(words: &mut Words) -> Result<Command, NotACommand>
+    ensures { result ≡ two_words register_of operand words.old.end words.old.pieces command.Set }
+{
+    let reg = words.register()?;
+    let value = words.only_operand()?;
+    Ok(Command::Set { reg, value })
+}
+
+/// `load REG ADDR`
+pub fn load(words: &mut Words) -> Result<Command, NotACommand>
+    ensures { result ≡ two_words register_of operand words.old.end words.old.pieces command.Load }
+{
+    let reg = words.register()?;
+    let addr = words.only_operand()?;
+    Ok(Command::Load { reg, addr })
+}
+
+/// `store ADDR VAL`
+pub fn store(words: &mut Words) -> Result<Command, NotACommand>
+    ensures { result ≡ two_words operand operand words.old.end words.old.pieces command.Store }
+{
+    let addr = words.operand()?;
+    let value = words.only_operand()?;
+    Ok(Command::Store { addr, value })
+}
+
+/// `erase ADDR`
+pub fn erase(words: &mut Words) -> Result<Command, NotACommand>
+    ensures { result ≡ one_word operand words.old.end words.old.pieces command.Erase }
+{
+    let addr = words.only_operand()?;
+    Ok(Command::Erase(addr))
+}
+
+/// `print VAL`
+pub fn print(words: &mut Words) -> Result<Command, NotACommand>
+    ensures { result ≡ one_word operand words.old.end words.old.pieces command.Print }
+{
+    let value = words.only_operand()?;
+    Ok(Command::Print(value))
+}
+
+/// `kmalloc SIZE [REG]`
+pub fn kmalloc(words: &mut Words) -> Result<Command, NotACommand>
+    ensures { result ≡ allocation words.old.end words.old.pieces command.Kmalloc }
+{
+    let size = words.number()?;
+    let reg = words.register_or_none()?;
+    Ok(Command::Kmalloc { size, reg })
+}
+
+/// `kzalloc SIZE [REG]`
+pub fn kzalloc(words: &mut Words) -> Result<Command, NotACommand>
+    ensures { result ≡ allocation words.old.end words.old.pieces command.Kzalloc }
+{
+    let size = words.number()?;
+    let reg = words.register_or_none()?;
+    Ok(Command::Kzalloc { size, reg })
+}
+
+/// `kfree ADDR`
+pub fn kfree(words: &mut Words) -> Result<Command, NotACommand>
+    ensures { result ≡ one_word operand words.old.end words.old.pieces command.Kfree }
+{
+    let addr = words.only_operand()?;
+    Ok(Command::Kfree(addr))
+}
+
+/// `pages N [REG]`
+pub fn pages(words: &mut Words) -> Result<Command, NotACommand>
+    ensures { result ≡ allocation words.old.end words.old.pieces command.Pages }
+{
+    let size = words.number()?;
+    let reg = words.register_or_none()?;
+    Ok(Command::Pages { count: size, reg })
+}
+
+/// `freepages ADDR`
+pub fn freepages(words: &mut Words) -> Result<Command, NotACommand>
+    ensures { result ≡ one_word operand words.old.end words.old.pieces command.FreePages }
+{
+    let addr = words.only_operand()?;
+    Ok(Command::FreePages(addr))
+}
+
+/// `vmalloc SIZE [REG]`
+pub fn vmalloc(words: &mut Words) -> Result<Command, NotACommand>
+    ensures { result ≡ allocation words.old.end words.old.pieces command.Vmalloc }
+{
+    let size = words.number()?;
+    let reg = words.register_or_none()?;
+    Ok(Command::Vmalloc { size, reg })
+}
+
+/// `vfree ADDR`
+pub fn vfree(words: &mut Words) -> Result<Command, NotACommand>
+    ensures { result ≡ one_word operand words.old.end words.old.pieces command.Vfree }
+{
+    let addr = words.only_operand()?;
+    Ok(Command::Vfree(addr))
+}
+
+/// `bootmem SIZE [REG]`
+pub fn bootmem(words: &mut Words) -> Result<Command, NotACommand>
+    ensures { result ≡ allocation words.old.end words.old.pieces command.BootMem }
+{
+    let size = words.number()?;
+    let reg = words.register_or_none()?;
+    Ok(Command::BootMem { size, reg })
+}
+
+/// `free_part ADDR SIZE`
+pub fn free_part(words: &mut Words) -> Result<Command, NotACommand>
+    ensures { result ≡ two_words operand number words.old.end words.old.pieces command.FreePart }
+{
+    let addr = words.operand()?;
+    let size = words.only_number()?;
+    Ok(Command::FreePart { addr, size })
+}
+
+/// `not_leak ADDR`
+pub fn not_leak(words: &mut Words) -> Result<Command, NotACommand>
+    ensures { result ≡ one_word operand words.old.end words.old.pieces command.NotLeak }
+{
+    let addr = words.only_operand()?;
+    Ok(Command::NotLeak(addr))
+}
+
+/// `ignore ADDR`
+pub fn ignore(words: &mut Words) -> Result<Command, NotACommand>
+    ensures { result ≡ one_word operand words.old.end words.old.pieces command.Ignore }
+{
+    let addr = words.only_operand()?;
+    Ok(Command::Ignore(addr))
+}
+
+/// `no_scan ADDR`
+pub fn no_scan(words: &mut Words) -> Result<Command, NotACommand>
+    ensures { result ≡ one_word operand words.old.end words.old.pieces command.NoScan }
+{
+    let addr = words.only_operand()?;
+    Ok(Command::NoScan(addr))
+}
+
+/// `scan_area ADDR SIZE`
+pub fn scan_area(words: &mut Words) -> Result<Command, NotACommand>
+    ensures { result ≡ two_words operand number words.old.end words.old.pieces command.ScanArea }
+{
+    let addr = words.operand()?;
+    let size = words.only_number()?;
+    Ok(Command::ScanArea { addr, size })
+}
+
+/// `transient_leak ADDR`
+pub fn transient_leak(words: &mut Words) -> Result<Command, NotACommand>
+    ensures { result ≡ one_word operand words.old.end words.old.pieces command.TransientLeak }
+{
+    let addr = words.only_operand()?;
+    Ok(Command::TransientLeak(addr))
+}
+
+/// `write WORD`, with any word
+pub fn write(words: &mut Words) -> Result<Command, NotACommand>
+    ensures { result ≡ one_word any_word words.old.end words.old.pieces (λ word. command.Write (file_command_of word)) }
+{
+    let word = words.only_word()?;
+    Ok(Command::Write(file_command(word)))
+}
+
+/// `read`
+pub fn read(words: &mut Words) -> Result<Command, NotACommand>
+    ensures { result ≡ alone command.Read words.old.end words.old.pieces }
+{
+    words.none_left()?;
+    Ok(Command::Read)
+}
+
+/// `tick N`
+pub fn tick(words: &mut Words) -> Result<Command, NotACommand>
+    ensures { result ≡ one_word (number_within 0 3600000) words.old.end words.old.pieces command.Tick }
+{
+    let time = words.only_number_within(0, LONGEST_TICK)?;
+    Ok(Command::Tick(time))
+}
+
+/// `begin`
+pub fn begin(words: &mut Words) -> Result<Command, NotACommand>
+    ensures { result ≡ alone command.Begin words.old.end words.old.pieces }
+{
+    words.none_left()?;
+    Ok(Command::Begin)
+}
+
+/// `step N`
+pub fn step(words: &mut Words) -> Result<Command, NotACommand>
+    ensures { result ≡ one_word (number_within 1 1000000) words.old.end words.old.pieces command.Step }
+{
+    let count = words.only_number_within(1, MOST_STEPS)?;
+    Ok(Command::Step(count))
+}
+
+/// `finish`
+pub fn finish(words: &mut Words) -> Result<Command, NotACommand>
+    ensures { result ≡ alone command.Finish words.old.end words.old.pieces }
+{
+    words.none_left()?;
+    Ok(Command::Finish)
+}
