@@ -1,0 +1,61 @@
+use Rattle.std.proofs.Common.{◌≡◌, ◌<◌, ◌-◌, ℕ, List, [], ◌++◌, length, take, drop, ap, sym, ◌∙◌, arith, length-drop}
+use Rattle.std.proofs.lemmas.List.{append-nil, take-append-drop}
+use Rattle.km_engine.proofs.Runs.{running_start, running_on, running_more, running_stop, running_rest, running_fault, running_long}
+use Rattle.km_engine.proofs.program.run_script.Goals as goal
+
+-- the last byte is taken away
+last_byte : (lines held : List ℕ) → held ≡ take (length lines - 1) lines → 0 < length lines → (lines ≡ held ++ drop (length lines - 1) lines) × (length (drop (length lines - 1) lines) ≡ 1)
+last_byte lines held e some = (
+  sym (take-append-drop (length lines - 1) lines) ∙ ap (λ x. x ++ drop (length lines - 1) lines) (sym e),
+  omega (arith, length-drop (length lines - 1) lines, some),
+)
+
+pub loop-taken-init : goal.loop-taken-init
+loop-taken-init g c = record { running = running_start _ _ _ _ c.new-script.ensures c.new-lines.ensures; within = omega arith; last = λ more. absurd (omega (arith, more)) }
+
+pub returns-in-Err : goal.returns-in-Err
+returns-in-Err g c =
+    let lines = c.loop-taken.lines in
+    running_stop _ _ _ _ _ _ lines lines [] _ c.in-Err.ended c.loop-taken.invariant.running (sym (append-nil lines)) (omega arith) c.in-Err.ensures
+
+pub returns-in-Ok-eq0 : goal.returns-in-Ok-eq0
+returns-in-Ok-eq0 g c =
+    let on = running_on _ _ _ _ _ _ _ _ _ _ c.loop-taken.invariant.running c.in_default.ensures.0 in
+    let fill = c.in-Ok-eq0.ensures in
+    let n = c.in-Ok-eq0.field-0 in
+    let more = running_more _ _ _ _ _ _ _ _ _ n on fill.fills.0 fill.fills.1 fill.fills.2 (omega (arith, fill.most)) fill.faults in
+    running_rest _ _ _ _ _ _ _ _ c.run_rest.result more (omega (arith, c.in-Ok-eq0.field-0-test)) (fill.fills.3 c.in-Ok-eq0.field-0-test) c.run_rest.ensures
+
+pub loop-taken-preserved : goal.loop-taken-preserved
+loop-taken-preserved g c =
+    let on = running_on _ _ _ _ _ _ _ _ _ _ c.loop-taken.invariant.running c.in_default.ensures.0 in
+    let fill = c.in-Ok.ensures in
+    let n = c.in-Ok.n in
+    record {
+      running = running_more _ _ _ _ _ _ _ _ _ n on fill.fills.0 fill.fills.1 fill.fills.2 (omega (arith, fill.most)) fill.faults;
+      within = omega (arith, fill.most);
+      last = λ more. omega (arith, fill.fills.0, c.in-Ok.n-test.1);
+    }
+
+pub returns-in-Err-fill : goal.returns-in-Err-fill
+returns-in-Err-fill g c =
+    let on = running_on _ _ _ _ _ _ _ _ _ _ c.loop-taken.invariant.running c.in_default.ensures.0 in
+    let fill = c.in-Err-fill.ensures in
+    running_fault _ _ _ _ _ _ _ _ on c.in_default.ensures.1 fill.fills.1 fill.faults fill.fills.2
+
+pub drop_last-requires : goal.drop_last-requires
+drop_last-requires g c = c.loop-taken.invariant.last c.loop-taken-test.false
+
+pub returns-in-Ok-run_lines : goal.returns-in-Ok-run_lines
+returns-in-Ok-run_lines g c =
+    let lines = c.loop-taken.lines in
+    let last = last_byte lines c.drop_last.new.self c.drop_last.ensures (c.loop-taken.invariant.last c.loop-taken-test.false) in
+    running_long _ _ _ _ _ _ _ _ lines _ (drop (length lines - 1) lines) _ c.loop-taken.invariant.running last.0 last.1
+    (omega (arith, c.loop-taken-test.false, c.loop-taken.invariant.within)) c.in-Ok-run_lines.ensures.0 c.in-Ok-run_lines.ensures.1
+
+pub returns : goal.returns
+returns g c =
+    let lines = c.loop-taken.lines in
+    let last = last_byte lines c.drop_last.new.self c.drop_last.ensures (c.loop-taken.invariant.last c.loop-taken-test.false) in
+    running_stop _ _ _ _ _ _ _ lines (drop (length lines - 1) lines) _ c.in-Err-run_lines.ended c.loop-taken.invariant.running last.0
+    (omega (arith, last.1, c.loop-taken.invariant.within)) c.in-Err-run_lines.ensures

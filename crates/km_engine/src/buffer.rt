@@ -1,0 +1,53 @@
+//! Runs the lines of a buffer.
+
+ghost use Rattle.std.specs.Prelude.{◌≡◌, ◌<◌, ◌-◌, ◌+◌, ◌^◌, false, length};
+ghost use Rattle.km_edge.specs.Lines.{Unknown, next_of};
+ghost use Rattle.km_engine.specs.Steps.{RunsLines, RunsRest};
+
+use crate::script::{Script, refuse};
+use km_edge::{Cut, Lines, Sink};
+use km_model::Status;
+use std::alloc::Global;
+
+/// The column that refuses a line that is too long.
+const TOO_LONG: u32 = 257;
+
+/// Runs the whole lines that are held. An `Err` is how the script ends.
+pub fn run_lines<K: Sink>(
+    script: &mut Script,
+    alloc: Global,
+    lines: &mut Lines,
+    sink: &mut K,
+) -> Result<(), Status>
+    requires { script.old.number + length lines.old < 2 ^ 64 - 1 }
+    ensures { RunsLines script.old script.new lines.old lines.new (K.state sink.old) (K.state sink.new) result }
+{
+    loop {
+        let passed = match lines.cut(false) {
+            Cut::Line(line) => {
+                if let Err(ended) = script.line(alloc, line, sink) {
+                    return Err(ended);
+                }
+                line.len()
+            }
+            Cut::Long => return Err(refuse(script.number(), TOO_LONG, sink)),
+            Cut::More => return Ok(()),
+        };
+        lines.pass(passed);
+    }
+}
+
+/// Runs the rest of the input, which ends without a line feed.
+pub fn run_rest<K: Sink>(script: &mut Script, alloc: Global, lines: &Lines, sink: &mut K) -> Status
+    requires numbered { script.old.number < 2 ^ 64 - 1 }
+    requires rest { next_of false lines.now ≡ Unknown }
+    ensures { RunsRest script.old lines.now (K.state sink.old) (K.state sink.new) result }
+{
+    let Cut::Line(line) = lines.cut(true) else {
+        return Status::Ok;
+    };
+    match script.line(alloc, line, sink) {
+        Ok(()) => Status::Ok,
+        Err(ended) => ended,
+    }
+}

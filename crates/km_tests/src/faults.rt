@@ -1,0 +1,105 @@
+//! Pieces, faults and words.
+
+use crate::run::{calls, run_in_pieces};
+use km_edge::{CountSink, MemSink, MemSource};
+use km_engine::{Status, run};
+use std::test::Fail;
+
+/// A script whose third line, up to byte 40, is the one that prints.
+const SCRIPT: &[u8] = b"memory 4096\nsection data 8\nkmalloc 4096\nwrite scan\nread\n";
+
+/// What it prints.
+const TEXT: &[u8] = b"kmalloc 0xffff888000002000\n";
+
+#[test]
+fn pieces_change_nothing(rt: HostRuntime) -> Result<(), Fail> {
+    for piece in [1, 3, 16, 4096] {
+        let report = run_in_pieces(rt.alloc(), SCRIPT, piece, 0, 100)?;
+        assert_eq!(rt; report.status, Status::Ok);
+        assert_eq!(rt; report.text.as_slice(), TEXT);
+    }
+    Ok(())
+}
+
+#[test]
+fn a_failed_read_leaves_the_texts_of_the_whole_lines(rt: HostRuntime) -> Result<(), Fail> {
+    for number in 1..SCRIPT.len() as u64 + 2 {
+        let report = run_in_pieces(rt.alloc(), SCRIPT, 1, number, 100)?;
+        let text = if number > 40 { TEXT } else { b"".as_slice() };
+        assert_eq!(rt;
+            report.status,
+            Status::ReadFault,
+            "where read {number} fails"
+        );
+        assert_eq!(rt; report.text.as_slice(), text, "where read {number} fails");
+    }
+    Ok(())
+}
+
+#[test]
+fn a_full_sink_holds_the_first_bytes(rt: HostRuntime) -> Result<(), Fail> {
+    for room in 0..TEXT.len() {
+        let report = run_in_pieces(rt.alloc(), SCRIPT, 4096, 0, room)?;
+        assert_eq!(rt; report.status, Status::WriteFault, "with room {room}");
+        assert_eq!(rt; report.text.as_slice(), &TEXT[..room], "with room {room}");
+    }
+    let report = run_in_pieces(rt.alloc(), SCRIPT, 4096, 0, TEXT.len())?;
+    assert_eq!(rt; report.status, Status::Ok);
+    assert_eq!(rt; report.text.as_slice(), TEXT);
+    Ok(())
+}
+
+#[test]
+fn a_refused_line_comes_before_a_failed_read(rt: HostRuntime) -> Result<(), Fail> {
+    let report = run_in_pieces(rt.alloc(), b"memory 1024\nfoo\nread\n", 16, 2, 100)?;
+    assert_eq!(rt; report.status, Status::NotACommand { line: 2, column: 1 });
+    assert_eq!(rt;
+        report.text.as_slice(),
+        b"not a command: line 2, column 1\n".as_slice()
+    );
+    Ok(())
+}
+
+#[test]
+fn a_failed_write_ends_the_run(rt: HostRuntime) -> Result<(), Fail> {
+    let alloc = rt.alloc();
+    let mut source = MemSource::new(Vec::from_slice(alloc, SCRIPT)?, 16, Vec::new(alloc));
+    let mut sink = MemSink::new(alloc, 100, 100, calls(alloc, 1)?)?;
+    let words = Vec::new(alloc);
+    assert_eq!(rt;
+        run(alloc, words.as_slice(), &mut source, &mut sink),
+        Status::WriteFault
+    );
+    assert_eq!(rt; sink.bytes().len(), 0);
+    Ok(())
+}
+
+#[test]
+fn a_word_is_refused_and_nothing_is_read(rt: HostRuntime) -> Result<(), Fail> {
+    let alloc = rt.alloc();
+    for word in ["foo", "check", "bench", "--help", ""] {
+        let mut words = Vec::new(alloc);
+        words.push(String::from_str(alloc, word)?)?;
+        let mut source = MemSource::new(Vec::from_slice(alloc, SCRIPT)?, 16, calls(alloc, 1)?);
+        let mut sink = MemSink::new(alloc, 0, 1, Vec::new(alloc))?;
+        assert_eq!(rt;
+            run(alloc, words.as_slice(), &mut source, &mut sink),
+            Status::BadWords { word: 1 }
+        );
+    }
+    Ok(())
+}
+
+#[test]
+fn a_sink_that_counts_takes_all(rt: HostRuntime) -> Result<(), Fail> {
+    let alloc = rt.alloc();
+    let mut source = MemSource::new(Vec::from_slice(alloc, SCRIPT)?, 4096, Vec::new(alloc));
+    let mut sink = CountSink::new();
+    let words = Vec::new(alloc);
+    assert_eq!(rt;
+        run(alloc, words.as_slice(), &mut source, &mut sink),
+        Status::Ok
+    );
+    assert_eq!(rt; sink.count(), TEXT.len() as u64);
+    Ok(())
+}

@@ -1,0 +1,175 @@
+//! Lines, their refusals and their places.
+
+use crate::run::assert_report;
+use km_engine::Status;
+use std::test::Fail;
+
+#[test]
+fn first_scripts_give_their_reports(rt: HostRuntime) -> Result<(), Fail> {
+    assert_report(&rt, b"", Status::Ok, b"")?;
+    assert_report(&rt, b"memory 4096\n", Status::Ok, b"")?;
+    assert_report(
+        &rt,
+        b"memory 4096\nsection data 8\nkmalloc 4096\nwrite scan\nread\n",
+        Status::Ok,
+        b"kmalloc 0xffff888000002000\n",
+    )?;
+    assert_report(
+        &rt,
+        b"memory 512\nsection data 1\nkmalloc 4096\n",
+        Status::Ok,
+        b"refused: no room\nrefused: no room\n",
+    )
+}
+
+#[test]
+fn lines_are_refused_at_their_columns(rt: HostRuntime) -> Result<(), Fail> {
+    let rows: [(&[u8], u32, &[u8]); 17] = [
+        (b"kmalloc", 8, b"not a command: line 2, column 8\n"),
+        (b"kmalloc 4096 9", 14, b"not a command: line 2, column 14\n"),
+        (
+            b"kmalloc 18446744073709551616",
+            9,
+            b"not a command: line 2, column 9\n",
+        ),
+        (
+            b"kmalloc 0x10000000000000000",
+            9,
+            b"not a command: line 2, column 9\n",
+        ),
+        (b"kmalloc 8", 9, b"not a command: line 2, column 9\n"),
+        (b"memory 1024", 1, b"not a command: line 2, column 1\n"),
+        (b"kmaloc 4096", 1, b"not a command: line 2, column 1\n"),
+        (b"tick 1000", 1, b"not a command: line 2, column 1\n"),
+        (b" \tkmalloc 0x", 11, b"not a command: line 2, column 11\n"),
+        (b"section data", 13, b"not a command: line 2, column 13\n"),
+        (b"section 1data 8", 9, b"not a command: line 2, column 9\n"),
+        (
+            b"section abcdefghijklmnopq 8",
+            9,
+            b"not a command: line 2, column 9\n",
+        ),
+        (
+            b"section data 8 8",
+            16,
+            b"not a command: line 2, column 16\n",
+        ),
+        (b"read \x7f", 6, b"not a command: line 2, column 6\n"),
+        (b"read \x80", 6, b"not a command: line 2, column 6\n"),
+        (b"read\x00", 5, b"not a command: line 2, column 5\n"),
+        (b"write", 6, b"not a command: line 2, column 6\n"),
+    ];
+    for (line, column, text) in rows {
+        let mut script = Vec::from_slice(rt.alloc(), b"memory 1024\n")?;
+        script.extend_from_slice(line)?;
+        script.extend_from_slice(b"\nread\n")?;
+        assert_report(
+            &rt,
+            script.as_slice(),
+            Status::NotACommand { line: 2, column },
+            text,
+        )?;
+    }
+    Ok(())
+}
+
+#[test]
+fn lines_of_other_forms_are_accepted(rt: HostRuntime) -> Result<(), Fail> {
+    let rows: [(&[u8], &[u8]); 8] = [
+        (b"  kmalloc\t0x1000\r", b"kmalloc 0xffff888000001000\n"),
+        (b"kmalloc 0004096", b"kmalloc 0xffff888000001000\n"),
+        (b"section abcdefghijklmnop 512", b""),
+        (b"# \x00 \x80 any bytes", b""),
+        (b" \t\r ", b""),
+        (b"write off", b"refused: invalid\n"),
+        (b"write scan", b""),
+        (b"read", b""),
+    ];
+    for (line, text) in rows {
+        let mut script = Vec::from_slice(rt.alloc(), b"\n#\nmemory 1024\n")?;
+        script.extend_from_slice(line)?;
+        assert_report(&rt, script.as_slice(), Status::Ok, text)?;
+        script.push(b'\n')?;
+        assert_report(&rt, script.as_slice(), Status::Ok, text)?;
+    }
+    Ok(())
+}
+
+#[test]
+fn the_first_command_is_memory(rt: HostRuntime) -> Result<(), Fail> {
+    assert_report(
+        &rt,
+        b"read\n",
+        Status::NotACommand { line: 1, column: 1 },
+        b"not a command: line 1, column 1\n",
+    )?;
+    assert_report(
+        &rt,
+        b"\n  read x\n",
+        Status::NotACommand { line: 2, column: 3 },
+        b"not a command: line 2, column 3\n",
+    )?;
+    assert_report(
+        &rt,
+        b"memory 409",
+        Status::NotACommand { line: 1, column: 8 },
+        b"not a command: line 1, column 8\n",
+    )?;
+    assert_report(
+        &rt,
+        b"memory 4194816\n",
+        Status::NotACommand { line: 1, column: 8 },
+        b"not a command: line 1, column 8\n",
+    )?;
+    assert_report(
+        &rt,
+        b"memory 4194304\nkmalloc 4096\n",
+        Status::Ok,
+        b"kmalloc 0xffff888000001000\n",
+    )
+}
+
+#[test]
+fn the_last_line_needs_no_line_feed(rt: HostRuntime) -> Result<(), Fail> {
+    assert_report(
+        &rt,
+        b"memory 4096\nkmall",
+        Status::NotACommand { line: 2, column: 1 },
+        b"not a command: line 2, column 1\n",
+    )?;
+    assert_report(
+        &rt,
+        b"memory 4096\nkmalloc ",
+        Status::NotACommand { line: 2, column: 9 },
+        b"not a command: line 2, column 9\n",
+    )?;
+    assert_report(
+        &rt,
+        b"memory 4096\nkmalloc 4096",
+        Status::Ok,
+        b"kmalloc 0xffff888000001000\n",
+    )
+}
+
+#[test]
+fn a_line_has_at_most_256_bytes(rt: HostRuntime) -> Result<(), Fail> {
+    for (first, filler) in [(b'#', b'x'), (b' ', b' ')] {
+        let mut script = Vec::from_slice(rt.alloc(), b"memory 4096\n")?;
+        script.push(first)?;
+        for _ in 1..256 {
+            script.push(filler)?;
+        }
+        assert_report(&rt, script.as_slice(), Status::Ok, b"")?;
+        script.push(filler)?;
+        assert_report(
+            &rt,
+            script.as_slice(),
+            Status::NotACommand {
+                line: 2,
+                column: 257,
+            },
+            b"not a command: line 2, column 257\n",
+        )?;
+    }
+    Ok(())
+}
