@@ -20,3 +20,4 @@ pub mod Expansion
 pub mod Output
 pub mod Headline
 pub mod Codes
+pub mod Refusals
