@@ -1,0 +1,5 @@
+use Rattle.km_laws.proofs.Moves.{all_moves_lower}
+use Rattle.km_laws.proofs.all_moves_lower.Goals as goal
+
+pub returns : goal.returns
+returns c = all_moves_lower

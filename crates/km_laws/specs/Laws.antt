@@ -1,0 +1,66 @@
+use Rattle.std.specs.Prelude.{◌≡◌, ℕ, ◌+◌, ◌*◌, ◌<◌, ◌≤◌, ◌≢◌, Bool, false, ◌&&◌, ◌==◌, length, ◌∷◌, Option, Some, None, if◌then◌else◌}
+use Rattle.km_base.specs.declared.acts.Act.{Act}
+use Rattle.km_base.specs.declared.acts.Act.TheVariants.{Step}
+use Rattle.km_base.specs.declared.acts.Answer.{Answer}
+use Rattle.km_base.specs.declared.acts.Answer.TheVariants.{Loaded}
+use Rattle.km_model.specs.History.{History}
+use Rattle.km_model.specs.Blocks.{Block}
+use Rattle.km_model.specs.Placement.{Allocation}
+use Rattle.km_model.specs.Tasks.{Task}
+use Rattle.km_model.specs.World.{World}
+use Rattle.km_model.specs.Past.{Place, ScanLoad, world, last_load, begins}
+use Rattle.km_model.specs.Scan.{next}
+use Rattle.km_model.specs.Follows.{Follows, moment, past_of}
+use Rattle.km_model.specs.Headline.{IsMemorySize}
+use Rattle.km_laws.specs.Members.{Each, Pairs}
+use Rattle.km_laws.specs.Left.{left}
+use Rattle.km_laws.specs.Placed.{AllocationsApart, BlocksApart, InMemory, BlockPlaced, StackPlaced}
+
+-- what stands at a moment is placed: live allocations have bytes, lie in the memory and never meet; each live block
+-- lies in one, and no two blocks meet; the stack of each task is one, and no two tasks have the same
+pub record IsPlaced (words : ℕ) (w : World) : Type 0 where
+  pub allocations : Each (λ (x : Allocation). (0 < x.size) × InMemory words x.start x.size) w.used
+  pub allocations_apart : Pairs AllocationsApart w.used
+  pub blocks : Each (BlockPlaced w.used) w.blocks
+  pub blocks_apart : Pairs BlocksApart w.blocks
+  pub stacks : Each (StackPlaced w.used) w.tasks
+  pub stacks_apart : Pairs (λ (t u : Task). t.stack ≢ u.stack) w.tasks
+
+-- at each moment of a history that follows, what stands is placed
+abbrev pub AllIsPlaced : Type 0
+AllIsPlaced = (words : ℕ) (h : History) → IsMemorySize words → Follows words h → IsPlaced words (world (past_of h))
+
+-- two blocks have different ids, below the number of those ever registered; two tasks different numbers, up to that of those ever started
+pub record HasNames (w : World) : Type 0 where
+  pub ids : Pairs (λ (b c : Block). b.id < c.id) w.blocks
+  pub registered : Each (λ (b : Block). b.id < w.registered) w.blocks
+  pub numbers : Pairs (λ (t u : Task). t.number < u.number) w.tasks
+  pub started : Each (λ (t : Task). t.number ≤ w.started) w.tasks
+
+-- at each moment of a history the ids of the blocks and the numbers of the tasks rise
+abbrev pub NamesRise : Type 0
+NamesRise = (h : History) → HasNames (world (past_of h))
+
+-- whether a load goes on with the holder of the last one, in its phase. A scanner moves to each other one
+abbrev pub goes_on : Option ScanLoad → Place → Bool
+goes_on None place = false
+goes_on (Some l) place = place.phase == l.place.phase && place.holder == l.place.holder
+
+-- each load of the scan lowers what is left by one, and by two with a move
+abbrev pub LoadsLower : Type 0
+LoadsLower =
+    (h : History) (place : Place) (value : ℕ) → next (past_of h) ≡ Some place
+    → left (moment (past_of h) Step (Loaded place.word value) ∷ past_of h) + (if goes_on (last_load (past_of h)) place then 1 else 2) ≤ left (past_of h)
+
+-- no event but the begin of a scan, registering a block and starting a task raises it
+abbrev pub NothingRaises : Type 0
+NothingRaises =
+    (h : History) (act : Act) (given : Answer) → begins act given ≡ false
+    → (world (moment (past_of h) act given ∷ past_of h)).registered ≡ (world (past_of h)).registered
+    → (world (moment (past_of h) act given ∷ past_of h)).started ≡ (world (past_of h)).started
+    → left (moment (past_of h) act given ∷ past_of h) ≤ left (past_of h)
+
+-- at each moment it is at most twice the words and three times the live blocks, and one
+abbrev pub LeftIsBounded : Type 0
+LeftIsBounded =
+    (words : ℕ) (h : History) → IsMemorySize words → Follows words h → left (past_of h) ≤ 2 * words + 3 * length (world (past_of h)).blocks + 1

@@ -1,0 +1,66 @@
+//! Laws of the definitions of `km_model`, each the contract of a function: what stands never meets, and a scan ends.
+#![tactic(auto)]
+
+ghost use Rattle.km_model.specs.Headline.{ScansEnd};
+ghost use Rattle.km_laws.specs.Laws.{AllIsPlaced, NamesRise, LoadsLower, NothingRaises, LeftIsBounded};
+ghost use Rattle.km_laws.specs.Moves.{LoadsLowerAt, AllMovesLower, NoSkipRaises, AllQueuesFit, NothingRaisesAt, LeftAtIsBounded};
+
+/// Live allocations never meet, each live block lies in one, and stacks are allocations.
+pub fn all_is_placed()
+    ensures { AllIsPlaced }
+{}
+
+/// The ids of blocks and the numbers of tasks rise.
+pub fn names_rise()
+    ensures { NamesRise }
+{}
+
+/// Each load of a scan lowers what is left of it.
+pub fn loads_lower()
+    ensures { LoadsLower }
+{}
+
+/// Nothing but registering a block and starting a task raises what is left of a scan.
+pub fn nothing_raises()
+    ensures { NothingRaises }
+{}
+
+/// What is left of a scan is bounded.
+pub fn left_is_bounded()
+    ensures { LeftIsBounded }
+{}
+
+/// A scan ends.
+pub fn scans_end()
+    ensures { ScansEnd }
+{}
+
+/// Each load lowers what is left where the scanner stands.
+pub fn loads_lower_at()
+    ensures { LoadsLowerAt }
+{}
+
+/// Each move lowers it: to the next stack, entry of a queue, block or phase.
+pub fn all_moves_lower()
+    ensures { AllMovesLower }
+{}
+
+/// To leave out what is gone raises nothing.
+pub fn no_skip_raises()
+    ensures { NoSkipRaises }
+{}
+
+/// The entries of the two queues are different, and no live one is white.
+pub fn all_queues_fit()
+    ensures { AllQueuesFit }
+{}
+
+/// Nothing but registering a block and starting a task raises it.
+pub fn nothing_raises_at()
+    ensures { NothingRaisesAt }
+{}
+
+/// It is bounded.
+pub fn left_at_is_bounded()
+    ensures { LeftAtIsBounded }
+{}
