@@ -1,5 +1,6 @@
 #!/usr/bin/env bash
-# Prints how fast the program reads: megabytes a second over 64 MiB of line feeds, and of comments.
+# Prints how fast the program reads: megabytes a second over 64 MiB of line feeds, and of comments,
+# and how many million lines of a generated script are parsed a second.
 set -eu
 cd "$(dirname "$0")/.."
 program=crates/kmemleak/out/kmemleak
@@ -19,3 +20,11 @@ measure() {
 }
 measure "line feeds" ""
 measure "comments" "# a comment of sixty bytes, as they stand in many scripts ..."
+parser=crates/bench_lines/out/bench_lines
+if [ ! -x "$parser" ]; then
+  (cd crates/bench_lines && rt run </dev/null >/dev/null)
+fi
+before=$(date +%s%N)
+lines=$("$parser" | cut -d' ' -f1)
+after=$(date +%s%N)
+echo "lines of a generated script, made and read: $((lines * 1000 / (after - before))) million a second"

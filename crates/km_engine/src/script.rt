@@ -9,7 +9,7 @@ use km_base::{Answer, Refusal};
 use km_core::Core;
 use km_edge::{Sink, write_all};
 use km_model::{Command, Line, Status};
-use km_script::read_line;
+use km_script::read_built_line;
 use km_text::Text;
 use std::alloc::Global;
 use std::marker::Model;
@@ -63,7 +63,7 @@ impl Script {
         requires { self.old.number < 2 ^ 64 - 1 }
         ensures { RunsLine self.old self.new bytes.now (K.state sink.old) (K.state sink.new) result }
     {
-        match read_line(bytes, self.is_fresh()) {
+        match read_built_line(bytes, self.is_fresh()) {
             Err(refused) => Err(refuse(self.number, refused.column, sink)),
             Ok(line) => {
                 self.run(alloc, line, sink)?;

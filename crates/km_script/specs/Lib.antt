@@ -2,3 +2,4 @@ pub mod Left
 pub mod Built
 pub mod Words
 pub mod Keywords
+pub mod Tables

@@ -31,7 +31,7 @@ fn with_number(word: &[u8]) -> Option<FileCmd>
     number(address).map(FileCmd::Dump)
 }
 
-/// The command that a word of the file is.
+/// The command that a word of the file is, or `None` for every other word.
 ///
 /// The words are `off`, `stack=on`, `stack=off`, `scan=on`, `scan=off`, `scan=N` with a number of
 /// seconds from 0 to 86,400, `scan`, `clear` and `dump=A` with an address.

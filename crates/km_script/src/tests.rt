@@ -2,23 +2,16 @@
 
 use crate::file::file_command;
 use crate::line::read_line;
-use crate::rules::read_any_command;
-use crate::words::Words;
 use km_base::{FileCmd, Name, Reg};
 use km_model::{Base, Command, Line, NotACommand, Operand, RegName};
 use std::test::Fail;
 
-/// The words of a line by the whole table.
+/// The command that a line is.
 fn command(line: &str) -> Result<Command, NotACommand> {
-    let bytes = line.as_bytes();
-    if bytes.len() > 256 {
-        return Err(NotACommand { column: 257 });
+    match read_line(line.as_bytes(), line.starts_with("memory"))? {
+        Line::Command(command) => Ok(command),
+        Line::Blank => Err(NotACommand { column: 0 }),
     }
-    let mut words = Words::of(bytes);
-    let Some(word) = words.next() else {
-        return Err(NotACommand { column: 0 });
-    };
-    read_any_command(word, &mut words)
 }
 
 fn operand(base: Base) -> Operand {
@@ -167,6 +160,9 @@ fn lines_are_refused_at_the_word_that_does_not_fit(rt: HostRuntime) {
         ("print 1+0xfg", 7),
     ] {
         assert_eq!(rt; command(line), Err(NotACommand { column }), "{line}");
+    }
+    for line in ["task a234567890123456", "print 000000000000000000000000031"] {
+        assert!(rt; command(line).is_ok(), "{line}");
     }
     for (line, column) in [
         ("kmalloc", 8),

@@ -14,7 +14,7 @@ use km_base::Name;
 use km_model::{NotACommand, Operand, RegName};
 use std::marker::Model;
 
-/// A word of a line.
+/// A word of a line, and the column of its first byte, from 1.
 #[derive(Clone, Copy)]
 pub struct Word<'a> {
     pub column: u32,
