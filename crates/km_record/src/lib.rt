@@ -1,0 +1,11 @@
+//! What is kept of a registered block.
+#![tactic(auto)]
+
+pub mod kinds;
+pub mod record;
+
+pub use kinds::{AreaFault, Colour, Minimum, Paint, RecId};
+pub use record::Record;
+
+#[cfg(test)]
+mod tests;

@@ -1,0 +1,6 @@
+pub mod Members
+pub mod Searches
+pub mod Writes
+pub mod Marks
+pub mod Leaves
+pub mod Enters

@@ -1,0 +1,3 @@
+pub mod Tracker
+pub mod Slots
+pub mod Holds

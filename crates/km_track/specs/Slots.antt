@@ -1,0 +1,82 @@
+use Rattle.std.specs.Prelude.{◌≡◌, ◌<◌, ◌⊎◌, ◌∷◌, ◌++◌, drop, length, slice_set, ℕ, ◌+◌, Bool, true, false, ◌||◌, List, [], slice_index_or, Some, None, if◌then◌else◌}
+use Rattle.km_base.specs.declared.spans.Addr.{Addr}
+use Rattle.km_base.specs.declared.spans.Span.{Span}
+use Rattle.km_links.specs.Chains.{first_of}
+use Rattle.km_model.specs.Scan.{differs}
+use Rattle.km_record.specs.declared.record.Record.{Record}
+use Rattle.km_record.specs.declared.kinds.Minimum.TheVariants.{Black, AtLeast}
+use Rattle.km_record.specs.declared.kinds.Paint.{Paint}
+use Rattle.km_record.specs.Records.{block_of, record_painted}
+use Rattle.km_model.specs.Blocks.{references_of}
+use Rattle.km_track.specs.declared.slots.Slot.{Slot}
+
+-- a slot that was never used
+abbrev pub no_record : Slot
+no_record = record {
+  generation = 0;
+  «record» = record {
+    span = record { start = record { 0 = 0 }; size = 0 };
+    minimum = Black;
+    count = 0;
+    no_scan = false;
+    areas = [];
+    excess = None;
+    born = 0;
+    sum = None;
+    flagged = false;
+    white_last = false;
+  };
+}
+
+-- the record in a slot
+abbrev pub slot_at : List Slot → ℕ → Slot
+slot_at slots n = slice_index_or slots n no_record
+
+-- a slot after a call that changes its record
+abbrev pub with_record : (Record → Record) → Slot → Slot
+with_record change x = record { generation = x.generation; «record» = change x.«record» }
+
+abbrev pub slot_painted : Paint → Slot → Slot
+slot_painted to x = with_record (record_painted to) x
+
+abbrev pub slot_unscanned : Slot → Slot
+slot_unscanned x = with_record (λ (r : Record). record r { no_scan = true }) x
+
+abbrev pub slot_forgotten : Slot → Slot
+slot_forgotten x = with_record (λ (r : Record). record r { sum = None }) x
+
+abbrev pub slot_excess : Addr → Slot → Slot
+slot_excess to x = with_record (λ (r : Record). record r { excess = Some to }) x
+
+abbrev pub slot_judged : Bool → Slot → Slot
+slot_judged white x = with_record (λ (r : Record). record r { flagged = white || r.flagged; white_last = white }) x
+
+abbrev pub slot_counted : Slot → Slot
+slot_counted x = with_record (λ (r : Record). record r { count = r.count + 1 }) x
+
+abbrev pub slot_summed : ℕ → Slot → Slot
+slot_summed sum x =
+    with_record (λ (r : Record). record r { count = if differs r.sum sum then references_of (block_of 0 r) else r.count; sum = Some sum }) x
+
+-- a block that was just registered
+abbrev pub slot_new : ℕ → Span → ℕ → ℕ → Slot
+slot_new id span references born = record {
+  generation = id;
+  «record» = record {
+    span = span;
+    minimum = AtLeast references;
+    count = 0;
+    no_scan = false;
+    areas = None ∷ None ∷ None ∷ None ∷ [];
+    excess = None;
+    born = born;
+    sum = None;
+    flagged = false;
+    white_last = false;
+  };
+}
+
+-- a record in the first free slot, or behind all others where none is free
+abbrev pub IsPlaced : List Slot → List Slot → List ℕ → List ℕ → ℕ → Slot → Type 0
+IsPlaced slots new free rest n x =
+    ((Some n ≡ first_of free) × (rest ≡ drop 1 free) × (n < length slots) × (new ≡ slice_set slots n x)) ⊎ ((free ≡ []) × (rest ≡ []) × (n ≡ length slots) × (new ≡ slots ++ x ∷ []))

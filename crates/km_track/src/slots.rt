@@ -1,0 +1,179 @@
+//! What a call changes in one record of the table.
+
+ghost use Rattle.std.specs.Prelude.{ℕ, ◌≤◌, ◌^◌, ◌⊎◌, [], ◌∷◌, ◌++◌, not, false, true, if◌then◌else◌, ◌&&◌, ◌≡◌, ◌+◌, ◌<◌, length, slice_set, vec_capacity};
+ghost use Rattle.km_links.specs.Chains.{is_in, without};
+ghost use Rattle.km_model.specs.Blocks.{needs};
+ghost use Rattle.km_model.specs.Scan.{differs};
+ghost use Rattle.km_record.specs.Records.{block_of};
+ghost use Rattle.km_state.specs.State.{is_white_now};
+ghost use Rattle.km_track.specs.Tracker.{tracked_of};
+ghost use Rattle.km_track.specs.Slots.{IsPlaced, slot_new, slot_at, slot_counted, slot_excess, slot_forgotten, slot_judged, slot_painted, slot_summed, slot_unscanned};
+
+use km_base::{Addr, Span};
+use km_links::{Links, Which};
+use km_record::{Minimum, Paint, Record};
+
+/// A record, and the number of the registration that it is or was of.
+#[derive(Clone, Copy, Debug, PartialEq)]
+pub struct Slot {
+    pub generation: u64,
+    pub record: Record,
+}
+
+pub fn paint(slots: &mut Vec<Slot>, n: u32, to: Paint)
+    requires { n < length slots.old.items }
+    ensures items { slots.new.items ≡ slice_set slots.old.items n (slot_painted to (slot_at slots.old.items n)) }
+    ensures capacity { vec_capacity slots.new ≡ vec_capacity slots.old }
+{
+    slots[n as usize].record.paint(to);
+}
+
+pub fn stop_scanning(slots: &mut Vec<Slot>, n: u32)
+    requires { n < length slots.old.items }
+    ensures items { slots.new.items ≡ slice_set slots.old.items n (slot_unscanned (slot_at slots.old.items n)) }
+    ensures capacity { vec_capacity slots.new ≡ vec_capacity slots.old }
+{
+    slots[n as usize].record.no_scan = true;
+}
+
+pub fn forget_sum(slots: &mut Vec<Slot>, n: u32)
+    requires { n < length slots.old.items }
+    ensures items { slots.new.items ≡ slice_set slots.old.items n (slot_forgotten (slot_at slots.old.items n)) }
+    ensures capacity { vec_capacity slots.new ≡ vec_capacity slots.old }
+{
+    slots[n as usize].record.sum = None;
+}
+
+pub fn set_excess(slots: &mut Vec<Slot>, n: u32, to: Addr)
+    requires { n < length slots.old.items }
+    ensures items { slots.new.items ≡ slice_set slots.old.items n (slot_excess to (slot_at slots.old.items n)) }
+    ensures capacity { vec_capacity slots.new ≡ vec_capacity slots.old }
+{
+    slots[n as usize].record.excess = Some(to);
+}
+
+/// Keeps a verdict, and says whether the block is flagged by it for the first time.
+pub fn judge(slots: &mut Vec<Slot>, n: u32, white: bool) -> bool
+    requires { n < length slots.old.items }
+    ensures answer { result ≡ (white && not (slot_at slots.old.items n).record.flagged) }
+    ensures items { slots.new.items ≡ slice_set slots.old.items n (slot_judged white (slot_at slots.old.items n)) }
+    ensures capacity { vec_capacity slots.new ≡ vec_capacity slots.old }
+{
+    let record = &mut slots[n as usize].record;
+    let is_new = white && !record.flagged;
+    record.flagged = white || record.flagged;
+    record.white_last = white;
+    is_new
+}
+
+/// Counts a reference to a white block, and says whether it has enough now.
+pub fn count(slots: &mut Vec<Slot>, n: u32) -> bool
+    requires within { n < length slots.old.items }
+    requires white { is_white_now (tracked_of 0 (slot_at slots.old.items n).record) ≡ true }
+    ensures answer { result ≡ needs ((slot_at slots.old.items n).record.count + 1) (block_of 0 (slot_at slots.old.items n).record) }
+    ensures items { slots.new.items ≡ slice_set slots.old.items n (slot_counted (slot_at slots.old.items n)) }
+    ensures capacity { vec_capacity slots.new ≡ vec_capacity slots.old }
+{
+    let record = &mut slots[n as usize].record;
+    match record.minimum {
+        Minimum::Black => false,
+        Minimum::AtLeast(minimum) => {
+            record.count += 1;
+            record.count == minimum
+        }
+    }
+}
+
+/// Keeps a sum of a white block. Where it is another, the count becomes the minimum.
+pub fn keep_sum(slots: &mut Vec<Slot>, n: u32, sum: u64) -> bool
+    requires { n < length slots.old.items }
+    ensures answer { result ≡ differs (slot_at slots.old.items n).record.sum sum }
+    ensures items { slots.new.items ≡ slice_set slots.old.items n (slot_summed sum (slot_at slots.old.items n)) }
+    ensures capacity { vec_capacity slots.new ≡ vec_capacity slots.old }
+{
+    let record = &mut slots[n as usize].record;
+    let is_changed = record.sum != Some(sum);
+    record.sum = Some(sum);
+    if is_changed {
+        record.count = match record.minimum {
+            Minimum::Black => 0,
+            Minimum::AtLeast(minimum) => minimum,
+        };
+    }
+    is_changed
+}
+
+/// Puts a slot at the end of the queue, where it is to be there now.
+pub fn queue_where(links: &mut Links, n: u32, now: bool)
+    requires table { n < links.old.capacity }
+    requires out { is_in n links.old.grey ≡ false }
+    ensures { links.new ≡ record links.old { grey = if now then links.old.grey ++ n ∷ [] else links.old.grey } }
+{
+    if now {
+        links.push_back(Which::Grey, n);
+    }
+}
+
+/// Takes a slot out of the order and the queue, and gives it back.
+pub fn release(links: &mut Links, n: u32)
+    requires table { n < links.old.capacity }
+    requires live { is_in n links.old.order ≡ true }
+    requires out { is_in n links.old.free ≡ false }
+    ensures { links.new ≡ record links.old { order = without n links.old.order; grey = without n links.old.grey; free = links.old.free ++ n ∷ [] } }
+{
+    links.unlink(Which::Order, n);
+    unqueue(links, n);
+    links.push_back(Which::Free, n);
+}
+
+/// Takes a slot out of the queue, if it is there.
+fn unqueue(links: &mut Links, n: u32)
+    ensures { links.new ≡ record links.old { grey = without n links.old.grey } }
+{
+    if !links.has(Which::Grey, n) {
+        return;
+    }
+    links.unlink(Which::Grey, n);
+}
+
+/// A record of a block that was just registered.
+pub fn fresh(generation: u64, span: Span, minimum: u8, born: u64) -> Slot
+    ensures { result ≡ slot_new generation span minimum born }
+{
+    Slot {
+        generation,
+        record: Record {
+            span,
+            minimum: Minimum::AtLeast(minimum),
+            count: 0,
+            no_scan: false,
+            areas: [None, None, None, None],
+            excess: None,
+            born,
+            sum: None,
+            flagged: false,
+            white_last: false,
+        },
+    }
+}
+
+/// Puts a record into a slot that is free again, or else into the next that was never used.
+pub fn place(slots: &mut Vec<Slot>, links: &mut Links, x: Slot) -> u32
+    requires used { (n : ℕ) → is_in n links.old.free ≡ true → n < length slots.old.items }
+    requires room { links.old.free ≡ [] → length slots.old.items < vec_capacity slots.old }
+    requires small { length slots.old.items < 2 ^ 32 }
+    ensures placed { IsPlaced slots.old.items slots.new.items links.old.free links.new.free result x }
+    ensures out { is_in result links.new.free ≡ false ⊎ (links.old.free ≡ []) }
+    ensures others { links.new ≡ record links.old { free = links.new.free } }
+    ensures capacity { vec_capacity slots.old ≤ vec_capacity slots.new }
+{
+    if let Some(n) = links.pop_front(Which::Free) {
+        slots[n as usize] = x;
+        return n;
+    }
+    let n = slots.len() as u32;
+    let Ok(()) = slots.push(x) else {
+        unreachable!()
+    };
+    n
+}
