@@ -1,0 +1,6 @@
+pub mod FirstFit
+pub mod Writes
+pub mod Touching
+pub mod Laying
+pub mod Changes
+pub mod Owners

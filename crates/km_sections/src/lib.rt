@@ -1,0 +1,10 @@
+//! Root sections: named runs of pages.
+#![tactic(auto)]
+
+pub mod errors;
+pub mod sections;
+#[cfg(test)]
+mod tests;
+
+pub use errors::{NoSection, SectionFault};
+pub use sections::Sections;
