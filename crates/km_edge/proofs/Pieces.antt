@@ -1,4 +1,4 @@
-use Rattle.std.proofs.Common.{take-take, ◌≡◌, ℕ, ◌+◌, ◌-◌, ◌≤◌, min, List, [], ◌++◌, length, take, drop, ap, sym, ◌∙◌, arith, length-append, length-drop}
+use Rattle.std.proofs.Common.{take-take, ◌≡◌, ℕ, ◌+◌, ◌-◌, ◌≤◌, List, [], ◌++◌, length, take, drop, ap, sym, ◌∙◌, arith, length-append, length-drop}
 use Rattle.std.proofs.lemmas.List.{length-take, take-append-drop, drop-drop, drop-take, drop_all}
 use Rattle.std.specs.List.{copy_within}
 use Rattle.std.proofs.Math.Seq.{take-append_seam}
@@ -10,8 +10,7 @@ pub piece_is_next : (n at : ℕ) (bytes buffer piece left : List ℕ) → left �
 piece_is_next n at bytes buffer piece left is_left is_piece fits inside is_end =
     let same : piece ≡ take n (drop at bytes) = is_piece ∙ ap (λ k. take k (drop at bytes)) (omega arith) in
     let size : length piece ≡ n = ap length same ∙ length-take n (drop at bytes) ∙ omega (arith, length-drop at bytes) in
-    let front : take n (piece ++ drop n buffer) ≡ piece = ap (λ k. take k (piece ++ drop n buffer)) (sym size) ∙ take-append_seam piece (drop n buffer) in
-    (
+    let front : take n (piece ++ drop n buffer) ≡ piece = ap (λ k. take k (piece ++ drop n buffer)) (sym size) ∙ take-append_seam piece (drop n buffer) in (
       omega (arith, length-append piece (drop n buffer), size),
       is_left ∙ sym (take-append-drop n (drop at bytes)) ∙ ap (λ x. x ++ drop n (drop at bytes)) (sym (front ∙ same)) ∙ ap (λ x. take n (piece ++ drop n buffer) ++ x) (drop-drop n at bytes),
       λ zero. drop_all (at + n) bytes (omega (arith, is_end zero)),

@@ -1,4 +1,4 @@
-use Rattle.std.proofs.Common.{◌≡◌, ℕ, ◌+◌, ◌-◌, ◌^◌, ◌<◌, ◌≤◌, min, max, List, [], ◌++◌, length, take, drop, Option, Some, None, inl, inr, ◌⊎◌, ap, sym, subst, ◌∙◌, arith, refl, append_assoc, length-append, length-drop}
+use Rattle.std.proofs.Common.{◌≡◌, ℕ, ◌+◌, ◌-◌, ◌≤◌, min, max, List, [], ◌++◌, length, take, drop, Option, Some, None, inl, inr, ap, sym, subst, ◌∙◌, arith, append_assoc, length-append, length-drop}
 use Rattle.std.proofs.lemmas.Bool.{cases_lt}
 use Rattle.std.proofs.lemmas.List.{append-nil, length-take, take_rest}
 use Rattle.std.proofs.Math.Seq.{take-add}
@@ -58,6 +58,6 @@ wrote_next a b c bytes at n within fits wrote appended counted grown =
     let size : n ≡ length (take n (drop at bytes)) = omega (arith, length-take n (drop at bytes), length-drop at bytes, fits') in (
       omega (arith, fits', within),
       subst (λ xs. Wrote a c xs) (sym (take-add at n bytes))
-      (wrote_more a b c (take at bytes) (take n (drop at bytes)) wrote
-      (record { appended = subst (λ xs. Appends b.held c.held (take n xs)) rest appended; counted = subst (λ m. Counts b.count c.count m) size counted; faults_kept = grown })),
+          (wrote_more a b c (take at bytes) (take n (drop at bytes)) wrote
+          (record { appended = subst (λ xs. Appends b.held c.held (take n xs)) rest appended; counted = subst (λ m. Counts b.count c.count m) size counted; faults_kept = grown })),
     )

@@ -1,5 +1,5 @@
 -- Sources and sinks over memory, as contracts see them.
-use Rattle.std.specs.Prelude.{◌≡◌, ℕ, ◌+◌, ◌-◌, ◌==◌, min, Bool, ◌||◌, List, ◌++◌, length, take, drop, if◌then◌else◌, Option, Some, None, Result, Ok, Err}
+use Rattle.std.specs.Prelude.{ℕ, ◌-◌, ◌==◌, min, Bool, ◌||◌, List, ◌++◌, length, take, drop, if◌then◌else◌, Some, None, Result, Ok, Err}
 use Rattle.std.specs.List.{list_any}
 use Rattle.km_edge.specs.declared.errors.Failed.{Failed}
 use Rattle.km_edge.specs.Streams.{SourceState, SinkState, raised}
@@ -40,7 +40,7 @@ is_in n ns = list_any (λ m. m == n) ns
 
 -- a read into as many bytes: the next piece, or a fault
 abbrev pub read_of : Supply → ℕ → Result ℕ Failed
-read_of s size = if is_in (raised s.calls) s.fail then Err (record { }) else Ok (min s.piece (min size (length s.left)))
+read_of s size = if is_in (raised s.calls) s.fail then Err (record {}) else Ok (min s.piece (min size (length s.left)))
 
 -- the source after that read
 abbrev pub after_read : Supply → ℕ → Supply
@@ -59,7 +59,7 @@ taken_of s size = min s.piece (min size (s.room - length s.held))
 
 -- a write of as many bytes
 abbrev pub write_of : Store → ℕ → Result ℕ Failed
-write_of s size = if write_fails s then Err (record { }) else Ok (taken_of s size)
+write_of s size = if write_fails s then Err (record {}) else Ok (taken_of s size)
 
 -- the sink after a write of a piece
 abbrev pub after_write : Store → List ℕ → Store

@@ -10,9 +10,7 @@ pub mod standard;
 pub mod streams;
 
 pub use errors::Failed;
-
 pub use lines::{Cut, Lines};
 pub use memory::{CountSink, MemSink, MemSource};
 pub use standard::{StdSink, StdSource};
-
 pub use streams::{Sink, Source, write_all};

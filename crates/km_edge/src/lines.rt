@@ -5,10 +5,9 @@ ghost use Rattle.std.specs.Io.KnownBytes.{Keeps, Consumes, IsAtEnd};
 ghost use Rattle.km_edge.specs.Streams.{Rose};
 ghost use Rattle.km_edge.specs.Lines.{is_line_feed, next_at, seen};
 
-use std::marker::Model;
-
 use crate::errors::Failed;
 use crate::streams::Source;
+use std::marker::Model;
 
 /// The most bytes that a line has, without its line feed.
 const LINE: usize = 256;
@@ -136,7 +135,12 @@ fn cut_at(held: &[u8], feed: Option<usize>, ended: bool) -> Cut<'_>
 }
 
 /// Makes one read of at most `most` bytes behind the first `end`.
-fn read_behind<S: Source>(source: &mut S, bytes: &mut [u8], end: usize, most: usize) -> Result<usize, Failed>
+fn read_behind<S: Source>(
+    source: &mut S,
+    bytes: &mut [u8],
+    end: usize,
+    most: usize,
+) -> Result<usize, Failed>
     requires some { 1 ≤ most }
     requires room { end < length bytes.old }
     ensures front { take end bytes.new ≡ take end bytes.old }

@@ -4,13 +4,11 @@ ghost use Rattle.std.specs.Prelude.{◌≡◌, ◌≤◌, ◌<◌, ◌+◌, ◌-
 ghost use Rattle.km_edge.specs.Memory.{is_in};
 ghost use Rattle.km_edge.specs.Streams.{Reads, Writes, greatest, raised as raised_of};
 
-use std::alloc::Global;
-use std::marker::Model;
-
-use km_base::NoMemory;
-
 use crate::errors::Failed;
 use crate::streams::{Sink, Source};
+use km_base::NoMemory;
+use std::alloc::Global;
+use std::marker::Model;
 
 /// One more, up to the greatest.
 fn raised(n: u64) -> u64
@@ -55,11 +53,11 @@ impl Model for MemSource {
     ghost Value = { Supply };
 
     ghost view = { λ a. record {
-        left = drop a.at a.bytes.items;
-        piece = a.piece;
-        fail = a.fail.items;
-        calls = a.calls;
-        faults = a.faults
+      left = drop a.at a.bytes.items;
+      piece = a.piece;
+      fail = a.fail.items;
+      calls = a.calls;
+      faults = a.faults;
     } };
 
     ghost invariant = { λ a. (a.at ≤ vec_len a.bytes) × (1 ≤ a.piece) };
@@ -124,12 +122,12 @@ impl Model for MemSink {
     ghost Value = { Store };
 
     ghost view = { λ a. record {
-        held = a.bytes.items;
-        room = a.room;
-        piece = a.piece;
-        fail = a.fail.items;
-        calls = a.calls;
-        faults = a.faults
+      held = a.bytes.items;
+      room = a.room;
+      piece = a.piece;
+      fail = a.fail.items;
+      calls = a.calls;
+      faults = a.faults;
     } };
 
     ghost invariant = { λ a. (vec_len a.bytes ≤ a.room) × (a.room ≤ vec_capacity a.bytes) × (1 ≤ a.piece) };
@@ -138,7 +136,12 @@ impl Model for MemSink {
 impl MemSink {
     /// An empty sink with room for `room` bytes that takes at most `piece` of them a call.
     /// `fail` has the numbers, from 1, of the calls that fail; a call without room fails too.
-    pub fn new(alloc: Global, room: usize, piece: usize, fail: Vec<u64>) -> Result<MemSink, NoMemory>
+    pub fn new(
+        alloc: Global,
+        room: usize,
+        piece: usize,
+        fail: Vec<u64>,
+    ) -> Result<MemSink, NoMemory>
         requires { 1 ≤ piece }
         ensures { IfOk result (λ s. s ≡ record { held = []; room = room; piece = piece; fail = fail.items; calls = 0; faults = 0 }) }
     {
@@ -180,7 +183,9 @@ impl Sink for MemSink {
             self.faults = raised(self.faults);
             return Err(Failed);
         }
-        let n = self.piece.min(piece.len().min(self.room - self.bytes.len()));
+        let n = self
+            .piece
+            .min(piece.len().min(self.room - self.bytes.len()));
         append(&mut self.bytes, &piece[..n]);
         Ok(n)
     }

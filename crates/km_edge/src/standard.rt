@@ -3,10 +3,9 @@
 ghost use Rattle.std.specs.Prelude.{◌≡◌, ◌≤◌, ◌<◌, length};
 ghost use Rattle.km_edge.specs.Streams.{raised as raised_of};
 
-use std::io::{Read, Write};
-
 use crate::errors::Failed;
 use crate::streams::{Sink, Source};
+use std::io::{Read, Write};
 
 /// A reader of std. It tells the bytes that the reader tells, which over standard input is none.
 #[derive(Drop)]

@@ -1,4 +1,4 @@
-use Rattle.std.proofs.Common.{◌≡◌, ◌≤◌, ◌-◌, length, take}
+use Rattle.std.proofs.Common.{◌≤◌, ◌-◌, length, take}
 use Rattle.km_edge.specs.Streams.{Wrote}
 use Rattle.km_edge.proofs.streams.write_all.Given as goal
 
