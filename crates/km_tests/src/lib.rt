@@ -11,6 +11,8 @@ mod lines;
 mod run;
 #[cfg(test)]
 mod sizes;
+#[cfg(test)]
+mod standard;
 
 /// The greatest number of bytes of a script.
 pub fn script_limit() -> usize
