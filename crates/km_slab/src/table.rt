@@ -1,0 +1,168 @@
+//! The marks of slab pages.
+
+ghost use Rattle.std.specs.Prelude.{◌≡◌, ◌+◌, ◌*◌, ◌/◌, ◌^◌, ◌<◌, ◌≤◌, ◌==◌, ◌&&◌, ◌||◌, not, nat_le, nat_lt, ℕ, length, slice_index_or, slice_set, None, Some, true, false, IfSome};
+ghost use Rattle.km_marks.specs.Sets.{has};
+ghost use Rattle.km_slab.specs.Blocks.{AreMarks, HasFree, IsFreeAt, IsFull, IsSize};
+ghost use Rattle.km_model.specs.Placement.{page_start};
+
+use km_base::Addr;
+use km_marks::Marks;
+
+/// The address of the first page.
+const BASE: u64 = 0xffff_8880_0000_0000;
+
+/// The bytes of a page.
+const PAGE: u32 = 4096;
+
+/// The most slots of a page.
+const SLOTS: usize = 512;
+
+/// The words that hold the marks of a page's slots.
+const SLOT_WORDS: usize = 8;
+
+/// The slab pages of a memory, and which of their slots are live.
+#[derive(Drop)]
+pub struct Table {
+    /// The size of the slots of each page, if it is a slab page.
+    pub classes: Vec<Option<u32>>,
+    /// The free slots of slab pages: slot `i` of page `p` is number `512 * p + i`.
+    pub free: Marks,
+    /// The live slots, alike.
+    pub live: Marks,
+    /// For each class a row of marks: its pages that have a free slot.
+    pub open: Marks,
+    /// The words of such a row.
+    pub row: usize,
+}
+
+/// The lowest page of a class that has a free slot.
+pub fn open_page(table: &Table, class: u32) -> Option<usize>
+    requires marks { AreMarks table.now.classes.items table.now.free table.now.live table.now.open table.now.row }
+    requires size { IsSize class }
+    ensures open { IfSome result (λ p. HasFree (record { classes = table.now.classes.items; live = table.now.live }) class p) }
+    ensures lowest { IfSome result (λ p. (q : ℕ) → q < p → IsFull (record { classes = table.now.classes.items; live = table.now.live }) class q) }
+    ensures none { result ≡ None → (q : ℕ) → IsFull (record { classes = table.now.classes.items; live = table.now.live }) class q }
+{
+    let first = table.row * (class / 8) as usize;
+    let mark = table.open.lowest(first, first + table.row)?;
+    Some(mark - 64 * first)
+}
+
+/// Marks so many numbers from one on.
+pub fn fill(marks: &mut Marks, first: usize, count: usize)
+    requires within { first + count ≤ 64 * length marks.old }
+    requires small { first + count < 2 ^ 50 }
+    ensures words { length marks.new ≡ length marks.old }
+    ensures filled { (j : ℕ) → has marks.new j ≡ (nat_le first j && nat_lt j (first + count) || has marks.old j) }
+{
+    for i in first..first + count {
+        marks.insert(i);
+    }
+}
+
+/// Unmarks them.
+pub fn clear(marks: &mut Marks, first: usize, count: usize)
+    requires within { first + count ≤ 64 * length marks.old }
+    requires small { first + count < 2 ^ 50 }
+    ensures words { length marks.new ≡ length marks.old }
+    ensures cleared { (j : ℕ) → has marks.new j ≡ (not (nat_le first j && nat_lt j (first + count)) && has marks.old j) }
+{
+    for i in first..first + count {
+        marks.remove(i);
+    }
+}
+
+/// Makes a page a slab page of a class, with all its slots free.
+pub fn take_page(table: &mut Table, page: usize, class: u32)
+    requires marks { AreMarks table.old.classes.items table.old.free table.old.live table.old.open table.old.row }
+    requires size { IsSize class }
+    requires page { page < length table.old.classes.items }
+    requires no_slab { slice_index_or table.old.classes.items page None ≡ None }
+    ensures marks { AreMarks table.new.classes.items table.new.free table.new.live table.new.open table.new.row }
+    ensures classes { table.new.classes.items ≡ slice_set table.old.classes.items page (Some class) }
+    ensures live { table.new.live ≡ table.old.live }
+{
+    table.classes[page] = Some(class);
+    fill(&mut table.free, SLOTS * page, (PAGE / class) as usize);
+    table
+        .open
+        .insert(64 * (table.row * (class / 8) as usize) + page);
+}
+
+/// The lowest free slot of a page of a class that has one.
+pub fn lowest_slot(table: &Table, page: usize, class: u32) -> usize
+    requires marks { AreMarks table.now.classes.items table.now.free table.now.live table.now.open table.now.row }
+    requires page { page < length table.now.classes.items }
+    requires free { HasFree (record { classes = table.now.classes.items; live = table.now.live }) class page }
+    ensures slot { IsFreeAt (record { classes = table.now.classes.items; live = table.now.live }) class page result }
+    ensures small { result < 512 }
+{
+    match table
+        .free
+        .lowest(SLOT_WORDS * page, SLOT_WORDS * page + SLOT_WORDS)
+    {
+        Some(number) => number - SLOTS * page,
+        None => unreachable!(),
+    }
+}
+
+/// Takes a free slot of a page of a class.
+pub fn take_slot(table: &mut Table, page: usize, class: u32, slot: usize)
+    requires marks { AreMarks table.old.classes.items table.old.free table.old.live table.old.open table.old.row }
+    requires page { page < length table.old.classes.items }
+    requires size { IsSize class }
+    requires small { slot < 512 }
+    requires free { IsFreeAt (record { classes = table.old.classes.items; live = table.old.live }) class page slot }
+    ensures marks { AreMarks table.new.classes.items table.new.free table.new.live table.new.open table.new.row }
+    ensures classes { table.new.classes.items ≡ table.old.classes.items }
+    ensures live { (j : ℕ) → has table.new.live j ≡ (j == 512 * page + slot || has table.old.live j) }
+{
+    table.free.remove(SLOTS * page + slot);
+    table.live.insert(SLOTS * page + slot);
+    match table
+        .free
+        .lowest(SLOT_WORDS * page, SLOT_WORDS * page + SLOT_WORDS)
+    {
+        Some(_) => (),
+        None => table
+            .open
+            .remove(64 * (table.row * (class / 8) as usize) + page),
+    }
+}
+
+/// Frees a live slot of a page of a class.
+pub fn give_slot(table: &mut Table, page: usize, class: u32, slot: usize)
+    requires marks { AreMarks table.old.classes.items table.old.free table.old.live table.old.open table.old.row }
+    requires page { page < length table.old.classes.items }
+    requires size { IsSize class }
+    requires class { slice_index_or table.old.classes.items page None ≡ Some class }
+    requires small { slot < 512 }
+    requires fits { slot < 4096 / class }
+    ensures marks { AreMarks table.new.classes.items table.new.free table.new.live table.new.open table.new.row }
+    ensures classes { table.new.classes.items ≡ table.old.classes.items }
+    ensures live { (j : ℕ) → has table.new.live j ≡ (not (j == 512 * page + slot) && has table.old.live j) }
+{
+    table.live.remove(SLOTS * page + slot);
+    table.free.insert(SLOTS * page + slot);
+    table
+        .open
+        .insert(64 * (table.row * (class / 8) as usize) + page);
+}
+
+/// Makes a page with no live slots no slab page.
+pub fn drop_page(table: &mut Table, page: usize, class: u32)
+    requires marks { AreMarks table.old.classes.items table.old.free table.old.live table.old.open table.old.row }
+    requires page { page < length table.old.classes.items }
+    requires size { IsSize class }
+    requires class { slice_index_or table.old.classes.items page None ≡ Some class }
+    requires dead { (i : ℕ) → i < 512 → has table.old.live (512 * page + i) ≡ false }
+    ensures marks { AreMarks table.new.classes.items table.new.free table.new.live table.new.open table.new.row }
+    ensures classes { table.new.classes.items ≡ slice_set table.old.classes.items page None }
+    ensures live { table.new.live ≡ table.old.live }
+{
+    clear(&mut table.free, SLOTS * page, (PAGE / class) as usize);
+    table
+        .open
+        .remove(64 * (table.row * (class / 8) as usize) + page);
+    table.classes[page] = None;
+}
