@@ -1,8 +1,8 @@
-use Rattle.std.proofs.Common.{◌≡◌, ◌≢◌, ℕ, suc, ◌+◌, ◌-◌, ◌<◌, ◌≤◌, Bool, true, false, ◌&&◌, ◌||◌, not, ◌==◌, List, [], ◌∷◌, ◌++◌, map, filter, length, cond, Some, inl, inr, refl, sym, ap, ◌∙◌, subst, arith, length-append}
+use Rattle.std.proofs.Common.{◌≡◌, ◌≢◌, ℕ, suc, ◌+◌, ◌-◌, ◌<◌, ◌≤◌, Bool, true, false, ◌&&◌, ◌||◌, not, ◌==◌, List, [], ◌∷◌, ◌++◌, map, filter, length, cond, Some, None, inl, inr, refl, sym, ap, ◌∙◌, subst, arith, length-append}
 use Rattle.std.specs.Prelude.{find}
 use Rattle.std.proofs.lemmas.Bool.{or_left, or_right, eqb-true, eqb-false, eq-eqb, ne_eqb, both_ways, not_from_false, not-true}
 use Rattle.std.proofs.lemmas.List.Folds.{list_any-append}
-use Rattle.km_links.specs.Chains.{is_in, without, IsDistinct}
+use Rattle.km_links.specs.Chains.{is_in, without, first_of, IsDistinct}
 use Rattle.km_links.proofs.Distinct.{without_none}
 use Rattle.km_map.specs.declared.entries.Entry.{Entry}
 use Rattle.km_map.specs.Entries.{starts_at, without_start, slot_where, IsRising}
@@ -14,7 +14,7 @@ use Rattle.km_track.proofs.Writes.{ids_in, at_start}
 
 -- a block leaves
 
-in_without : (n m : ℕ) (ns : List ℕ) → is_in m (without n ns) ≡ true → (is_in m ns ≡ true) × (m ≢ n)
+pub in_without : (n m : ℕ) (ns : List ℕ) → is_in m (without n ns) ≡ true → (is_in m ns ≡ true) × (m ≢ n)
 in_without n m [] h = absurd (let z : ⊥ = cc in z)
 in_without n m (k ∷ ns) h =
     elim (k == n) as (λ b. (k == n) ≡ b → is_in m (cond (not b) (k ∷ without n ns) (without n ns)) ≡ true → (is_in m (k ∷ ns) ≡ true) × (m ≢ n)) [
@@ -33,7 +33,7 @@ without_in n m (k ∷ ns) h ne =
       | false ↦ λ _. elim (k == m) as (λ b. (b || is_in m ns) ≡ true → (b || is_in m (without n ns)) ≡ true) [ true ↦ λ _. refl | false ↦ λ j. without_in n m ns j ne ] h
     ] refl
 
-not_in_without : (n : ℕ) (ns : List ℕ) → is_in n (without n ns) ≡ false
+pub not_in_without : (n : ℕ) (ns : List ℕ) → is_in n (without n ns) ≡ false
 not_in_without n ns = elim (is_in n (without n ns)) as (λ b. is_in n (without n ns) ≡ b → b ≡ false) [ true ↦ λ e. absurd ((in_without n n ns e).1 refl) | false ↦ λ _. refl ] refl
 
 out_without : (n m : ℕ) (ns : List ℕ) → is_in m ns ≡ false → is_in m (without n ns) ≡ false
@@ -196,3 +196,11 @@ pub viewed_left : (S : List Slot) (order grey free : List ℕ) (es : List Entry)
 viewed_left S order grey free es reg a n capacity w l =
     let more : capacity - length (without n order) ≡ capacity - length order + 1 = omega (arith, w.shorter) in
     λ i. record { live = w.lives i; queue = w.ids i; registered = reg; spare = more i }
+
+-- where no block is live, none is queued
+pub none_queued : (S : List Slot) (order grey free : List ℕ) (es : List Entry) (reg : ℕ) → Holds S order grey free es reg → None ≡ first_of order → grey ≡ []
+none_queued S order [] free es reg h e = refl
+none_queued S [] (n ∷ grey) free es reg h e =
+    let p : is_in n [] ≡ true = (h.queued n (or_left _ _ (eq-eqb n n refl))).0 in
+    absurd (let z : ⊥ = cc in z)
+none_queued S (m ∷ order) (n ∷ grey) free es reg h e = absurd (let z : ⊥ = cc in z)

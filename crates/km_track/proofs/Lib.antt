@@ -4,3 +4,5 @@ pub mod Writes
 pub mod Marks
 pub mod Leaves
 pub mod Enters
+pub mod Starts
+pub mod Areas

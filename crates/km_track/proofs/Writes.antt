@@ -26,7 +26,7 @@ use Rattle.km_track.proofs.Searches.{live_id, where_some, where_none}
 abbrev pub ids_in : List Slot → List ℕ → List ℕ
 ids_in S ns = map (λ n. (slot_at S n).generation) ns
 
-map_each : (S T : List Slot) (f : Live → Live) (order : List ℕ) → ((m : ℕ) → is_in m order ≡ true → live_at T m ≡ f (live_at S m)) → map (live_at T) order ≡ map f (map (live_at S) order)
+pub map_each : (S T : List Slot) (f : Live → Live) (order : List ℕ) → ((m : ℕ) → is_in m order ≡ true → live_at T m ≡ f (live_at S m)) → map (live_at T) order ≡ map f (map (live_at S) order)
 map_each S T f [] h = refl
 map_each S T f (m ∷ order) h =
     rw (h m (or_left _ _ (eq-eqb m m refl)), map_each S T f order (λ k j. h k (or_right (m == k) _ j))) refl

@@ -1,3 +1,4 @@
 pub mod Tracker
 pub mod Slots
 pub mod Holds
+pub mod Areas

@@ -1,13 +1,13 @@
 use Rattle.std.specs.Prelude.{◌≡◌, ◌<◌, ◌⊎◌, ◌∷◌, ◌++◌, drop, length, slice_set, ℕ, ◌+◌, Bool, true, false, ◌||◌, List, [], slice_index_or, Some, None, if◌then◌else◌}
 use Rattle.km_base.specs.declared.spans.Addr.{Addr}
 use Rattle.km_base.specs.declared.spans.Span.{Span}
-use Rattle.km_links.specs.Chains.{first_of}
+use Rattle.km_links.specs.Chains.{first_of, without}
 use Rattle.km_model.specs.Scan.{differs}
 use Rattle.km_record.specs.declared.record.Record.{Record}
 use Rattle.km_record.specs.declared.kinds.Minimum.TheVariants.{Black, AtLeast}
 use Rattle.km_record.specs.declared.kinds.Paint.{Paint}
-use Rattle.km_record.specs.Records.{block_of, record_painted}
-use Rattle.km_model.specs.Blocks.{references_of}
+use Rattle.km_record.specs.Records.{IsSound, with_area, block_of, record_painted}
+use Rattle.km_model.specs.Blocks.{needs, references_of}
 use Rattle.km_track.specs.declared.slots.Slot.{Slot}
 
 -- a slot that was never used
@@ -80,3 +80,34 @@ slot_new id span references born = record {
 abbrev pub IsPlaced : List Slot → List Slot → List ℕ → List ℕ → ℕ → Slot → Type 0
 IsPlaced slots new free rest n x =
     ((Some n ≡ first_of free) × (rest ≡ drop 1 free) × (n < length slots) × (new ≡ slice_set slots n x)) ⊎ ((free ≡ []) × (rest ≡ []) × (n ≡ length slots) × (new ≡ slots ++ x ∷ []))
+
+abbrev pub slot_started : Slot → Slot
+slot_started x = with_record (λ (r : Record). record r { count = 0 }) x
+
+-- a table in which the count of each of these slots is nothing
+abbrev pub started_slots : List Slot → List ℕ → List Slot
+started_slots slots [] = slots
+started_slots slots (n ∷ ns) = started_slots (slice_set slots n (slot_started (slot_at slots n))) ns
+
+-- a queue with a slot at its end, where it is to be there, and nowhere else
+abbrev pub requeued : Bool → ℕ → List ℕ → List ℕ
+requeued now n grey = if now then without n grey ++ n ∷ [] else without n grey
+
+-- whether the block in a slot needs no reference
+abbrev pub is_root : List Slot → ℕ → Bool
+is_root slots n = needs 0 (block_of 0 (slot_at slots n).«record»)
+
+-- a queue after each of these slots was taken out of it, or put at its end where it needs no reference
+abbrev pub started_queue : List Slot → List ℕ → List ℕ → List ℕ
+started_queue slots grey [] = grey
+started_queue slots grey (n ∷ ns) =
+    started_queue (slice_set slots n (slot_started (slot_at slots n))) (requeued (is_root slots n) n grey) ns
+
+-- a table after an area was added to a block
+pub record IsWithArea (area : Span) (slots new : List Slot) (n : ℕ) : Type 0 where
+  pub after : Slot
+  pub items : new ≡ slice_set slots n after
+  pub id : after.generation ≡ (slot_at slots n).generation
+  pub others : after.«record» ≡ record (slot_at slots n).«record» { areas = after.«record».areas }
+  pub block : (id : ℕ) → block_of id after.«record» ≡ with_area area.start.0 area.size (block_of id (slot_at slots n).«record»)
+  pub sound : IsSound after.«record»

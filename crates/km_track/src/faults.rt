@@ -1,6 +1,9 @@
 //! Why a call is refused.
 
-use km_record::RecId;
+ghost use Rattle.std.specs.Prelude.{◌≡◌};
+ghost use Rattle.km_track.specs.Areas.{refusal_of};
+
+use km_record::{AreaFault, RecId};
 use thiserror::Error;
 
 /// The span has a byte in common with live blocks, of which this is the lowest.
@@ -24,4 +27,15 @@ pub enum AreaRefusal {
     AreaOverlap,
     #[error("too many areas")]
     TooManyAreas,
+}
+
+/// The refusal that a fault of an area is.
+pub fn refusal(fault: AreaFault) -> AreaRefusal
+    ensures { result ≡ refusal_of fault }
+{
+    match fault {
+        AreaFault::NotInside => AreaRefusal::NotInside,
+        AreaFault::AreaOverlap => AreaRefusal::AreaOverlap,
+        AreaFault::TooManyAreas => AreaRefusal::TooManyAreas,
+    }
 }

@@ -1,17 +1,17 @@
 //! What a call changes in one record of the table.
 
-ghost use Rattle.std.specs.Prelude.{ℕ, ◌≤◌, ◌^◌, ◌⊎◌, [], ◌∷◌, ◌++◌, not, false, true, if◌then◌else◌, ◌&&◌, ◌≡◌, ◌+◌, ◌<◌, length, slice_set, vec_capacity};
+ghost use Rattle.std.specs.Prelude.{IsTrue, OnErr, OnOk, ◌%◌, ℕ, ◌≤◌, ◌^◌, ◌⊎◌, [], ◌∷◌, ◌++◌, not, false, true, if◌then◌else◌, ◌&&◌, ◌≡◌, ◌+◌, ◌<◌, length, slice_set, vec_capacity};
 ghost use Rattle.km_links.specs.Chains.{is_in, without};
-ghost use Rattle.km_model.specs.Blocks.{needs};
+ghost use Rattle.km_model.specs.Blocks.{contains, needs};
 ghost use Rattle.km_model.specs.Scan.{differs};
-ghost use Rattle.km_record.specs.Records.{block_of};
+ghost use Rattle.km_record.specs.Records.{IsSound, area_fault, block_of, unless_fault};
 ghost use Rattle.km_state.specs.State.{is_white_now};
 ghost use Rattle.km_track.specs.Tracker.{tracked_of};
-ghost use Rattle.km_track.specs.Slots.{IsPlaced, slot_new, slot_at, slot_counted, slot_excess, slot_forgotten, slot_judged, slot_painted, slot_summed, slot_unscanned};
+ghost use Rattle.km_track.specs.Slots.{IsWithArea, IsPlaced, slot_new, slot_at, slot_counted, slot_excess, slot_forgotten, slot_judged, slot_painted, slot_started, started_queue, started_slots, slot_summed, is_root as needs_none, requeued, slot_unscanned};
 
 use km_base::{Addr, Span};
 use km_links::{Links, Which};
-use km_record::{Minimum, Paint, Record};
+use km_record::{AreaFault, Minimum, Paint, Record};
 
 /// A record, and the number of the registration that it is or was of.
 #[derive(Clone, Copy, Debug, PartialEq)]
@@ -103,6 +103,46 @@ pub fn keep_sum(slots: &mut Vec<Slot>, n: u32, sum: u64) -> bool
     is_changed
 }
 
+/// Sets the count of a block to 0, and says whether it needs no reference.
+fn start(slots: &mut Vec<Slot>, n: u32) -> bool
+    requires { n < length slots.old.items }
+    ensures answer { result ≡ needs_none slots.old.items n }
+    ensures items { slots.new.items ≡ slice_set slots.old.items n (slot_started (slot_at slots.old.items n)) }
+    ensures capacity { vec_capacity slots.new ≡ vec_capacity slots.old }
+{
+    let record = &mut slots[n as usize].record;
+    record.count = 0;
+    match record.minimum {
+        Minimum::Black => false,
+        Minimum::AtLeast(minimum) => minimum == 0,
+    }
+}
+
+/// Takes a slot out of the queue, and puts it at its end where it is to be there now.
+fn requeue(links: &mut Links, slot: u32, now: bool)
+    requires table { slot < links.old.capacity }
+    ensures { links.new ≡ record links.old { grey = requeued now slot links.old.grey } }
+{
+    unqueue(links, slot);
+    queue_where(links, slot, now);
+}
+
+/// Sets the count of each block in order to 0, and makes the queue of those that need no reference.
+pub fn start_all(slots: &mut Vec<Slot>, links: &mut Links)
+    requires within { (n : ℕ) → is_in n links.old.order ≡ true → n < length slots.old.items }
+    requires table { (n : ℕ) → is_in n links.old.order ≡ true → n < links.old.capacity }
+    ensures items { slots.new.items ≡ started_slots slots.old.items links.old.order }
+    ensures links { links.new ≡ record links.old { grey = started_queue slots.old.items links.old.grey links.old.order } }
+    ensures capacity { vec_capacity slots.new ≡ vec_capacity slots.old }
+{
+    let mut next = links.first(Which::Order);
+    while let Some(n) = next {
+        let is_root = start(slots, n);
+        requeue(links, n, is_root);
+        next = links.next(Which::Order, n);
+    }
+}
+
 /// Puts a slot at the end of the queue, where it is to be there now.
 pub fn queue_where(links: &mut Links, n: u32, now: bool)
     requires table { n < links.old.capacity }
@@ -176,4 +216,20 @@ pub fn place(slots: &mut Vec<Slot>, links: &mut Links, x: Slot) -> u32
         unreachable!()
     };
     n
+}
+
+/// Adds an area to a block.
+pub fn add_area(slots: &mut Vec<Slot>, n: u32, area: Span) -> Result<(), AreaFault>
+    requires within { n < length slots.old.items }
+    requires sound { IsSound (slot_at slots.old.items n).record }
+    requires start { area.start.0 % 8 ≡ 0 }
+    requires size { area.size % 8 ≡ 0 }
+    requires sized { 0 < area.size }
+    requires inside { IsTrue (contains area.start.0 (block_of 0 (slot_at slots.old.items n).record)) }
+    ensures answer { result ≡ unless_fault (area_fault (block_of 0 (slot_at slots.old.items n).record) area.start.0 area.size) }
+    ensures refused { OnErr result (slots.new.items ≡ slots.old.items) }
+    ensures items { OnOk result (IsWithArea area slots.old.items slots.new.items n) }
+    ensures capacity { vec_capacity slots.new ≡ vec_capacity slots.old }
+{
+    slots[n as usize].record.add_area(area)
 }

@@ -1,15 +1,16 @@
 //! The tracker.
 
-ghost use Rattle.std.specs.Prelude.{is_err, IfErr, ◌%◌, ◌^◌, if◌then◌else◌, drop, ◌&&◌, ◌+◌, not, ◌≡◌, ◌≤◌, ◌<◌, [], true, is_ok, is_some, OnErr, IfOk, IfSome, option_map};
+ghost use Rattle.std.specs.Prelude.{OnOk, None, length, is_err, IfErr, ◌%◌, ◌^◌, if◌then◌else◌, drop, ◌&&◌, ◌+◌, not, ◌≡◌, ◌≤◌, ◌<◌, [], true, is_ok, is_some, OnErr, IfOk, IfSome, option_map};
 ghost use Rattle.km_links.specs.Chains.{first_of};
 ghost use Rattle.km_model.specs.Scan.{differs};
 ghost use Rattle.km_state.specs.State.{is_white_now};
 ghost use Rattle.std.specs.Result.{result_ok};
-ghost use Rattle.km_record.specs.Records.{IsSound, painted};
+ghost use Rattle.km_record.specs.Records.{IsSound, painted, with_area};
 ghost use Rattle.km_model.specs.Blocks.{contains, needs, unscanned};
-ghost use Rattle.km_track.specs.Tracker.{AreRising, IsLowest, meets, registered_in, unregistered_at, Live, begins, counted, judged, queued, summed, changed, changed_at, is_id, first_live, id_of, is_live, live_behind, live_where, live_with, tracked_of};
+ghost use Rattle.km_track.specs.Areas.{area_answer};
+ghost use Rattle.km_track.specs.Tracker.{AreRising, IsLowest, meets, registered_in, scan_started, unregistered_at, Live, begins, counted, judged, queued, summed, changed, changed_at, is_id, first_live, id_of, is_live, live_behind, live_where, live_with, tracked_of};
 
-use crate::faults::{NoObject, Overlap};
+use crate::faults::{self, AreaRefusal, NoObject, Overlap};
 use crate::slots::{self, Slot};
 use km_base::{Addr, NoMemory, Span};
 use km_links::{Links, Which};
@@ -95,6 +96,7 @@ impl<M: ObjectMap> Track<M> {
     pub fn unregister(&mut self, start: Addr) -> Result<RecId, NoObject>
         ensures answer { result_ok result ≡ option_map id_of (live_where (begins start.0) self.old) }
         ensures after { self.new ≡ (if is_ok result then unregistered_at start.0 self.old else self.old) }
+        ensures places { self.new.spare + length self.new.live ≡ self.old.spare + length self.old.live }
     {
         let Some(slot) = self.map.remove(start) else {
             return Err(NoObject);
@@ -175,6 +177,27 @@ impl<M: ObjectMap> Track<M> {
         Ok(())
     }
 
+    /// Adds an area, given in whole words, to the block that has the byte at an address.
+    ///
+    /// It is refused where no block has the byte, and else by the rules of `Record::add_area`.
+    pub fn add_area(&mut self, a: Addr, size: u64) -> Result<(), AreaRefusal>
+        requires start { a.0 % 8 ≡ 0 }
+        requires size { size % 8 ≡ 0 }
+        requires sized { 0 < size }
+        ensures answer { result ≡ area_answer (live_where (contains a.0) self.old) a.0 size }
+        ensures block { OnOk result (self.new ≡ changed (λ l. contains a.0 l.tracked.block) (λ u. record u { block = with_area a.0 size u.block }) self.old) }
+        ensures refused { OnErr result (self.new ≡ self.old) }
+    {
+        let Some(slot) = self.map.find(a) else {
+            return Err(AreaRefusal::NoObject);
+        };
+        let area = Span { start: a, size };
+        if let Err(fault) = slots::add_area(&mut self.slots, slot, area) {
+            return Err(faults::refusal(fault));
+        }
+        Ok(())
+    }
+
     /// Forgets the kept sum of the block that begins at an address.
     pub fn forget_sum(&mut self, start: Addr) -> Result<(), NoObject>
         ensures answer { is_ok result ≡ is_some (live_where (begins start.0) self.old) }
@@ -241,5 +264,31 @@ impl<M: ObjectMap> Track<M> {
         let slot = self.links.pop_front(Which::Grey)?;
         let generation = self.slots[slot as usize].generation;
         Some(RecId { slot, generation })
+    }
+
+    /// Begins a scan: every count is 0, and the blocks that need no reference are queued in order of
+    /// registration.
+    pub fn start_scan(&mut self)
+        ensures { self.new ≡ scan_started self.old }
+    {
+        slots::start_all(&mut self.slots, &mut self.links);
+    }
+
+    /// The address of the block that was registered first.
+    fn first_start(&self) -> Option<Addr>
+        ensures start { option_map (λ a. a.0) result ≡ option_map (λ l. l.tracked.block.start) (first_live self.now.live) }
+        ensures queue { result ≡ None → self.now.queue ≡ [] }
+    {
+        let slot = self.links.first(Which::Order)?;
+        Some(self.slots[slot as usize].record.span.start)
+    }
+
+    /// Unregisters every block.
+    pub fn drop_all(&mut self)
+        ensures { self.new ≡ record { live = []; queue = []; registered = self.old.registered; spare = self.old.spare + length self.old.live } }
+    {
+        while let Some(start) = self.first_start() {
+            let _ = self.unregister(start);
+        }
     }
 }

@@ -1,4 +1,7 @@
 use Rattle.std.proofs.Common.{◌+◌, ◌<◌, length, refl, ap, ◌∙◌, arith}
+use Rattle.std.proofs.lemmas.List.{length-map}
+use Rattle.km_links.specs.Chains.{without}
+use Rattle.km_track.specs.Holds.{live_at}
 use Rattle.km_map.proofs.Places.{kept_none}
 use Rattle.km_track.specs.Tracker.{Tracker, unregistered_at}
 use Rattle.km_track.proofs.Searches.{read}
@@ -55,3 +58,9 @@ returns-clause-after g c =
     let w = left c.self.inside.slots.items c.self.inside.links.order c.self.inside.links.grey c.self.inside.links.free (g.M.ObjectMap.entries c.self.inside.map) c.self.inside.registered c.args.start.0 c.in-Some.slot i.holds (c.in-Some.ensures {u = tt}).slot (rw (c.in-Some.ensures {u = tt}).entries at (c.in-Some.ensures {u = tt}).rising) in
     let room : length c.self.inside.links.order < c.self.inside.capacity + 1 = omega (arith, i.holds.count, i.within, c.self.inside.slots.ok.0) in
     rw c.release.ensures (viewed_left _ _ _ _ _ _ _ _ c.self.inside.capacity w room ∙ ap (λ (t : Tracker). unregistered_at c.args.start.0 t) c.self.view_is)
+
+pub returns-clause-places : goal.returns-clause-places
+returns-clause-places g c =
+    let i = c.self.invariant in
+    let w = left c.self.inside.slots.items c.self.inside.links.order c.self.inside.links.grey c.self.inside.links.free (g.M.ObjectMap.entries c.self.inside.map) c.self.inside.registered c.args.start.0 c.in-Some.slot i.holds (c.in-Some.ensures {u = tt}).slot (rw (c.in-Some.ensures {u = tt}).entries at (c.in-Some.ensures {u = tt}).rising) in
+    rw c.release.ensures (omega (arith, ap (λ (t : Tracker). t.spare) c.self.view_is, ap (λ (t : Tracker). length t.live) c.self.view_is, length-map c.self.inside.links.order (live_at c.self.inside.slots.items), length-map (without c.in-Some.slot c.self.inside.links.order) (live_at c.self.inside.slots.items), w.shorter, i.holds.count, i.within, c.self.inside.slots.ok.0))
