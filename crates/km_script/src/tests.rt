@@ -158,6 +158,8 @@ fn lines_are_refused_at_the_word_that_does_not_fit(rt: HostRuntime) {
         ("print 0x", 7),
         ("print 0X1", 7),
         ("print 1+0xfg", 7),
+        ("print +1", 7),
+        ("print a+b", 7),
     ] {
         assert_eq!(rt; command(line), Err(NotACommand { column }), "{line}");
     }
