@@ -6,3 +6,4 @@ pub mod Leaves
 pub mod Enters
 pub mod Starts
 pub mod Areas
+pub mod Apart

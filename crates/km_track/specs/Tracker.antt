@@ -1,4 +1,4 @@
-use Rattle.std.specs.Prelude.{◌≡◌, ℕ, ◌+◌, ◌-◌, ◌≤◌, Bool, true, false, ◌&&◌, ◌||◌, not, nat_lt, ◌==◌, List, [], ◌∷◌, ◌++◌, map, filter, find, Option, Some, None, if◌then◌else◌}
+use Rattle.std.specs.Prelude.{◌≡◌, ◌⊎◌, ℕ, ◌+◌, ◌-◌, ◌<◌, ◌≤◌, Bool, true, false, ◌&&◌, ◌||◌, not, nat_lt, ◌==◌, List, [], ◌∷◌, ◌++◌, map, filter, find, Option, Some, None, if◌then◌else◌}
 use Rattle.std.specs.List.{list_any}
 use Rattle.km_base.specs.declared.spans.Span.{Span}
 use Rattle.km_model.specs.Blocks.{Block, AtLeast, needs, references_of}
@@ -150,3 +150,17 @@ scan_started t = record t {
 abbrev pub AreRising : ℕ → List Live → ℕ → Type 0
 AreRising low [] high = low ≤ high
 AreRising low (l ∷ ls) high = (low ≤ l.tracked.block.id) × AreRising (l.tracked.block.id + 1) ls high
+
+-- of two blocks, one ends where the other begins or before
+abbrev pub AreApart : Block → Block → Type 0
+AreApart b c = (b.start + b.size ≤ c.start) ⊎ (c.start + c.size ≤ b.start)
+
+-- a block is apart from each of these
+abbrev pub IsApartFrom : Block → List Live → Type 0
+IsApartFrom b [] = Unit {0}
+IsApartFrom b (l ∷ ls) = AreApart b l.tracked.block × IsApartFrom b ls
+
+-- each block has bytes, and no two have one in common
+abbrev pub NeverMeet : List Live → Type 0
+NeverMeet [] = Unit {0}
+NeverMeet (l ∷ ls) = (0 < l.tracked.block.size) × IsApartFrom l.tracked.block ls × NeverMeet ls

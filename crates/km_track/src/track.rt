@@ -8,7 +8,7 @@ ghost use Rattle.std.specs.Result.{result_ok};
 ghost use Rattle.km_record.specs.Records.{IsSound, painted, with_area};
 ghost use Rattle.km_model.specs.Blocks.{contains, needs, unscanned};
 ghost use Rattle.km_track.specs.Areas.{area_answer};
-ghost use Rattle.km_track.specs.Tracker.{AreRising, IsLowest, meets, registered_in, scan_started, unregistered_at, Live, begins, counted, judged, queued, summed, changed, changed_at, is_id, first_live, id_of, is_live, live_behind, live_where, live_with, tracked_of};
+ghost use Rattle.km_track.specs.Tracker.{AreRising, IsLowest, NeverMeet, meets, registered_in, scan_started, unregistered_at, Live, begins, counted, judged, queued, summed, changed, changed_at, is_id, first_live, id_of, is_live, live_behind, live_where, live_with, tracked_of};
 
 use crate::faults::{self, AreaRefusal, NoObject, Overlap};
 use crate::slots::{self, Slot};
@@ -120,6 +120,7 @@ impl<M: ObjectMap> Track<M> {
         ensures block { option_map (λ r. record { slot = id.slot; tracked = tracked_of id.generation r.now }) result ≡ live_with id self.now }
         ensures sound { IfSome result (λ r. IsSound r.now) }
         ensures rising { AreRising 0 self.now.live self.now.registered }
+        ensures apart { NeverMeet self.now.live }
     {
         if !self.links.has(Which::Order, id.slot) {
             return None;

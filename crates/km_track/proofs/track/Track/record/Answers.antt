@@ -1,8 +1,9 @@
 use Rattle.std.proofs.Common.{subst, ◌≡◌, Some, refl, sym, ap, ◌∙◌}
 use Rattle.km_track.specs.declared.slots.Slot.{Slot}
 use Rattle.km_track.specs.Slots.{slot_at}
-use Rattle.km_track.specs.Tracker.{AreRising, Tracker, tracked_of}
+use Rattle.km_track.specs.Tracker.{AreRising, NeverMeet, Tracker, tracked_of}
 use Rattle.km_track.proofs.Searches.{rising_live, with_id, without_slot, without_id, read}
+use Rattle.km_track.proofs.Apart.{never_meet}
 use Rattle.km_track.proofs.track.Track.record.Goals as goal
 
 pub returns-then-not-has-clause-block : goal.returns-then-not-has-clause-block
@@ -40,3 +41,18 @@ returns-then-slot-id-clause-rising g c =
 pub returns-else-slot-id-clause-rising : goal.returns-else-slot-id-clause-rising
 returns-else-slot-id-clause-rising g c =
     subst (λ (t : Tracker). AreRising 0 t.live t.registered) c.self.view_is (rising_live c.self.inside.slots.items 0 c.self.inside.links.order c.self.inside.registered c.self.invariant.holds.ids)
+
+pub returns-then-not-has-clause-apart : goal.returns-then-not-has-clause-apart
+returns-then-not-has-clause-apart g c =
+    let h = c.self.invariant.holds in
+    subst (λ (t : Tracker). NeverMeet t.live) c.self.view_is (never_meet c.self.inside.slots.items _ c.self.inside.links.order h.rising h.orders h.kept)
+
+pub returns-then-slot-id-clause-apart : goal.returns-then-slot-id-clause-apart
+returns-then-slot-id-clause-apart g c =
+    let h = c.self.invariant.holds in
+    subst (λ (t : Tracker). NeverMeet t.live) c.self.view_is (never_meet c.self.inside.slots.items _ c.self.inside.links.order h.rising h.orders h.kept)
+
+pub returns-else-slot-id-clause-apart : goal.returns-else-slot-id-clause-apart
+returns-else-slot-id-clause-apart g c =
+    let h = c.self.invariant.holds in
+    subst (λ (t : Tracker). NeverMeet t.live) c.self.view_is (never_meet c.self.inside.slots.items _ c.self.inside.links.order h.rising h.orders h.kept)
