@@ -6,3 +6,7 @@ pub mod Taking
 pub mod Changing
 pub mod Giving
 pub mod Dropping
+pub mod Starts
+pub mod Opening
+pub mod Growing
+pub mod Fresh

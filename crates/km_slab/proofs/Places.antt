@@ -95,7 +95,7 @@ slot_found sheets pages used class p i laid blocks fits some free =
     let test = λ (a : ℕ). not (is_taken used a) in
     ap (λ b. if b then find test (slots_from class (4096 / class) (page_start p)) else None) (slab_page sheets pages used class p blocks fits some free.0)
     ∙ first_slot test class (4096 / class) (page_start p) i free.1
-    (λ j less. ap not (live_taken sheets used class p j blocks free.0 (free.3 j less)))
+    (λ j less. ap not (live_taken sheets used class p j blocks free.0 (let f = free.1 in omega (arith, f, less)) (free.3 j less)))
     (not_from_false (is_taken used (slot_start class p i)) (false_from_ne_true (is_taken used (slot_start class p i)) (λ h.
     both_ways (is_live sheets p i) free.2 (taken_live sheets pages used class p i laid blocks fits some (slot_within class i some free.1) free.0 h))))
 
@@ -118,7 +118,7 @@ slot_none sheets used class p blocks full none =
       | inl found ↦
           let at = class_there sheets used class p blocks full found in
           ap (λ b. if b then find test (slots_from class (4096 / class) (page_start p)) else None) found
-          ∙ no_slot test class (4096 / class) (page_start p) (λ j less. ap not (live_taken sheets used class p j blocks at (none at j less)))
+          ∙ no_slot test class (4096 / class) (page_start p) (λ j less. ap not (live_taken sheets used class p j blocks at less (none at j less)))
       | inr other ↦ ap (λ b. if b then find test (slots_from class (4096 / class) (page_start p)) else None) other
     ]
 

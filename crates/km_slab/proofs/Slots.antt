@@ -1,5 +1,6 @@
 use Rattle.std.proofs.Common.{◌≡◌, ℕ, ◌+◌, ◌-◌, ◌*◌, ◌/◌, ◌<◌, ◌≤◌, Bool, true, ◌&&◌, ◌==◌, List, [], ◌∷◌, Option, Some, ap, ◌∙◌, arith, inl, inr}
 use Rattle.std.specs.List.{list_any}
+use Rattle.std.proofs.Math.Nat.{le-div_iff_mul-le}
 use Rattle.std.proofs.lemmas.Bool.{and_parts, and_from, or_cases, or_left, or_right, eqb-true, eq-eqb}
 use Rattle.km_model.specs.Memory.{base}
 use Rattle.km_model.specs.Placement.{Allocation, page_of, is_slab_block, is_slab_page, is_taken}
@@ -21,7 +22,13 @@ page_of_slot b class p i some fits =
     let more : class * (i + 1) ≡ class * i + class = omega arith in
     omega (arith, more, some, fits)
 
-slot_parts : (class a : ℕ) (x : Allocation) → is_slot class a x ≡ true → (is_slab_block x ≡ true) × (x.size ≡ class) × (x.start ≡ a)
+-- a slot that lies in its page is one of its slots
+pub place_fits : (class i : ℕ) → 0 < class → class * (i + 1) ≤ 4096 → i < 4096 / class
+place_fits class i some fits =
+    let d : i + 1 ≤ 4096 / class = (le-div_iff_mul-le some).1 (omega (arith, fits)) in
+    omega (arith, d)
+
+pub slot_parts : (class a : ℕ) (x : Allocation) → is_slot class a x ≡ true → (is_slab_block x ≡ true) × (x.size ≡ class) × (x.start ≡ a)
 slot_parts class a x h =
     let outer = and_parts (is_slab_block x && x.size == class) (x.start == a) h in
     let inner = and_parts (is_slab_block x) (x.size == class) outer.0 in
@@ -35,10 +42,10 @@ slab_page sheets pages used class p blocks fits some at =
     (λ x h.
     let k = slot_parts class (slot_start class p i.0) x h in
     and_from (is_slab_block x && x.size == class) (page_of x.start == p) (and_from (is_slab_block x) (x.size == class) k.0 (eq-eqb x.size class k.1))
-    (eq-eqb (page_of x.start) p (ap page_of k.2 ∙ page_of_slot base class p i.0 some i.1))) (blocks.live p class i.0 at i.2)
+    (eq-eqb (page_of x.start) p (ap page_of k.2 ∙ page_of_slot base class p i.0 some i.1))) (blocks.live p class i.0 at (place_fits class i.0 some i.1) i.2)
 
 -- a slot is taken where it is live
-pub live_taken : (sheets : Sheets) (used : List Allocation) (class p i : ℕ) → AreBlocks sheets used → class_at sheets p ≡ Some class → is_live sheets p i ≡ true → is_taken used (slot_start class p i) ≡ true
-live_taken sheets used class p i blocks at live =
+pub live_taken : (sheets : Sheets) (used : List Allocation) (class p i : ℕ) → AreBlocks sheets used → class_at sheets p ≡ Some class → i < 4096 / class → is_live sheets p i ≡ true → is_taken used (slot_start class p i) ≡ true
+live_taken sheets used class p i blocks at fits live =
     any_weaker (is_slot class (slot_start class p i)) (λ (x : Allocation). x.start == slot_start class p i) used
-    (λ x h. (and_parts (is_slab_block x && x.size == class) (x.start == slot_start class p i) h).1) (blocks.live p class i at live)
+    (λ x h. (and_parts (is_slab_block x && x.size == class) (x.start == slot_start class p i) h).1) (blocks.live p class i at fits live)

@@ -46,7 +46,7 @@ pub record IsSlot (sheets : Sheets) (x : Allocation) : Type 0 where
 -- the slab blocks among the live allocations are the live slots of these pages
 pub record AreBlocks (sheets : Sheets) (used : List Allocation) : Type 0 where
   pub slots : All (λ (x : Allocation). is_slab_block x ≡ true → IsSlot sheets x) used
-  pub live : (p class i : ℕ) → class_at sheets p ≡ Some class → is_live sheets p i ≡ true → list_any (is_slot class (slot_start class p i)) used ≡ true
+  pub live : (p class i : ℕ) → class_at sheets p ≡ Some class → i < 4096 / class → is_live sheets p i ≡ true → list_any (is_slot class (slot_start class p i)) used ≡ true
 
 -- the answer to a request, among these allocations
 abbrev pub kmalloc_answer : ℕ → List Allocation → ℕ → Answer

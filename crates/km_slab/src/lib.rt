@@ -6,6 +6,9 @@
 
 pub mod classes;
 pub mod errors;
+pub mod slab;
+pub mod small;
 pub mod table;
 
 pub use errors::SlabFault;
+pub use slab::Slab;

@@ -166,3 +166,28 @@ pub fn drop_page(table: &mut Table, page: usize, class: u32)
         .remove(64 * (table.row * (class / 8) as usize) + page);
     table.classes[page] = None;
 }
+
+/// The live slot that begins at an address: its page, its class and its place.
+pub fn slot_at(table: &Table, start: Addr) -> Option<(usize, u32, usize)>
+    requires marks { AreMarks table.now.classes.items table.now.free table.now.live table.now.open table.now.row }
+    ensures page { IfSome result (λ r. r.0 < length table.now.classes.items) }
+    ensures class { IfSome result (λ r. slice_index_or table.now.classes.items r.0 None ≡ Some r.1) }
+    ensures small { IfSome result (λ r. r.2 < 512) }
+    ensures live { IfSome result (λ r. has table.now.live (512 * r.0 + r.2) ≡ true) }
+    ensures start { IfSome result (λ r. start.0 ≡ page_start r.0 + r.1 * r.2) }
+    ensures none { result ≡ None → (p class i : ℕ) → slice_index_or table.now.classes.items p None ≡ Some class → i < 512 → start.0 ≡ page_start p + class * i → has table.now.live (512 * p + i) ≡ false }
+{
+    let offset = start.0.checked_sub(BASE)?;
+    let page = (offset / PAGE as u64) as usize;
+    if page >= table.classes.len() {
+        return None;
+    }
+    let class = table.classes[page]?;
+    let inside = (offset % PAGE as u64) as u32;
+    let slot = (inside / class) as usize;
+    if inside % class == 0 && table.live.contains(SLOTS * page + slot) {
+        Some((page, class, slot))
+    } else {
+        None
+    }
+}

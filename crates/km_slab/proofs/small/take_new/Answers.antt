@@ -1,0 +1,50 @@
+use Rattle.std.proofs.Common.{arith, ◌≡◌, ◌+◌, ◌-◌, ◌*◌, ◌/◌, ◌<◌, ◌==◌, ◌||◌, length, slice_set, Some, None, ◌++◌, ◌∷◌, [], refl, sym, ap, subst, ◌∙◌}
+use Rattle.std.proofs.lemmas.Bool.{both_ways}
+use Rattle.km_model.specs.Memory.{base}
+use Rattle.km_model.specs.Placement.{page_start, is_slab_block}
+use Rattle.km_marks.specs.Sets.{has}
+use Rattle.km_pages.specs.declared.runs.Use.TheVariants.{Slab}
+use Rattle.km_pages.specs.Runs.{run_at}
+use Rattle.km_slab.specs.Blocks.{AreBlocks, Fits}
+use Rattle.km_slab.proofs.Growing.{blocks_grown, slab_block_use}
+use Rattle.km_slab.proofs.Fresh.{no_slab_there, page_grown, page_fits}
+use Rattle.km_slab.proofs.small.take_new.Goals as goal
+
+pub returns-clause-fits : goal.returns-clause-fits
+returns-clause-fits c =
+    let t = c.args.table.now in let new = c.take_slot.new.table in
+    let low = c.in_ok-start.ensures.lowest in let inside = c.in_ok-start.ensures.inside in let count = c.requires.fits.count in
+    let page = (c.in_ok-start.start.0 - base) / 4096 in
+    let at : c.in_ok-start.start.0 ≡ page_start ((c.in_ok-start.start.0 - base) / 4096) = omega (arith, low) in
+    let within : (c.in_ok-start.start.0 - base) / 4096 < length t.classes.items = omega (arith, low, inside, count) in
+    let none = no_slab_there (record { classes = t.classes.items; live = t.live }) c.args.pages.now page c.requires.fits (subst (λ a. run_at c.args.pages.now Slab a ≡ None) at (c.in_ok-start.ensures.fresh Slab)) in
+    let g = page_grown t.classes.items t.free t.live t.open new.live t.row c.args.class page c.requires.marks c.requires.size within none
+        (λ n. c.take_slot.ensures.live n ∙ ap (λ l. n == 512 * page + 0 || has l n) c.take_page.ensures.live) in
+    let set = c.take_slot.ensures.classes ∙ c.take_page.ensures.classes in
+    subst (λ xs. Fits (record { classes = xs; live = new.live }) c.take.new.self) (sym set)
+    (page_fits (record { classes = t.classes.items; live = t.live }) (record { classes = slice_set t.classes.items page (Some c.args.class); live = new.live }) c.args.pages.now c.take.new.self c.args.class page g refl c.in_ok-start.ensures.size c.in_ok-start.ensures.runs c.requires.fits)
+
+pub returns-clause-blocks : goal.returns-clause-blocks
+returns-clause-blocks c = λ used x blocks slab size start.
+    let t = c.args.table.now in let new = c.take_slot.new.table in
+    let low = c.in_ok-start.ensures.lowest in let inside = c.in_ok-start.ensures.inside in let count = c.requires.fits.count in
+    let page = (c.in_ok-start.start.0 - base) / 4096 in
+    let at : c.in_ok-start.start.0 ≡ page_start ((c.in_ok-start.start.0 - base) / 4096) = omega (arith, low) in
+    let within : (c.in_ok-start.start.0 - base) / 4096 < length t.classes.items = omega (arith, low, inside, count) in
+    let none = no_slab_there (record { classes = t.classes.items; live = t.live }) c.args.pages.now page c.requires.fits (subst (λ a. run_at c.args.pages.now Slab a ≡ None) at (c.in_ok-start.ensures.fresh Slab)) in
+    let g = page_grown t.classes.items t.free t.live t.open new.live t.row c.args.class page c.requires.marks c.requires.size within none
+        (λ n. c.take_slot.ensures.live n ∙ ap (λ l. n == 512 * page + 0 || has l n) c.take_page.ensures.live) in
+    let set = c.take_slot.ensures.classes ∙ c.take_page.ensures.classes in
+    subst (λ xs. AreBlocks (record { classes = xs; live = new.live }) (used ++ x ∷ [])) (sym set)
+    (blocks_grown (record { classes = t.classes.items; live = t.live }) (record { classes = slice_set t.classes.items page (Some c.args.class); live = new.live }) used c.args.class page 0 x g blocks slab size (omega (arith, start, at)))
+
+pub returns-clause-laid : goal.returns-clause-laid
+returns-clause-laid c = λ used x laid slab size start.
+    let some = c.requires.size.0 in let most = c.requires.size.1 in
+    c.in_ok-start.ensures.laid used x laid (record {
+      its_use = sym (slab_block_use x.«use» slab);
+      start = start;
+      long = omega (arith, size, some);
+      fits = omega (arith, size, most);
+      whole = λ e. absurd (both_ways (is_slab_block x) e slab);
+    })
