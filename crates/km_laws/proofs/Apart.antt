@@ -1,6 +1,6 @@
-use Rattle.std.proofs.Common.{◌≡◌, ℕ, ◌+◌, ◌-◌, ◌*◌, ◌%◌, ◌<◌, ◌≤◌, Bool, true, false, not, ◌&&◌, ◌||◌, ◌==◌, nat_le, nat_lt, replicate, slice_set, bytes_eq, length, List, [], ◌∷◌, ◌++◌, Option, Some, None, is_some, if◌then◌else◌, refl, sym, ap, ◌∙◌, subst, arith, ◌⊎◌, inl, inr, ltb-true, leb-true, eqb-true, eq-eqb}
+use Rattle.std.proofs.Common.{◌≡◌, ℕ, suc, ◌+◌, ◌-◌, ◌*◌, ◌<◌, ◌≤◌, Bool, true, false, not, ◌&&◌, ◌||◌, ◌==◌, nat_le, nat_lt, replicate, slice_set, bytes_eq, length, List, [], ◌∷◌, ◌++◌, Option, Some, None, is_some, if◌then◌else◌, refl, sym, ap, ◌∙◌, subst, arith, ◌⊎◌, inl, inr, ltb-true, leb-true, eqb-true, eq-eqb}
 use Rattle.std.specs.List.{list_any}
-use Rattle.std.proofs.lemmas.Bool.{and_parts, both_ways, not-false, not-true, or_parts, ltb-false, eqb-false}
+use Rattle.std.proofs.lemmas.Bool.{and_parts, both_ways, not-false, not-true, or_parts}
 use Rattle.std.proofs.lemmas.Slice.Eq.{bytes_eq-Decides}
 use Rattle.km_base.specs.declared.acts.Act.{Act}
 use Rattle.km_base.specs.declared.acts.Act.TheVariants.{Section, TaskStart, TaskExit, SetReg, Load, Kmalloc, Kfree, Pages, FreePages, VmTake, VmGive, BootMem, FreePart, NotLeak, Ignore, NoScan, ScanArea, File}
@@ -9,12 +9,11 @@ use Rattle.km_base.specs.declared.acts.FileCmd.TheVariants.{ScanOn, ScanEvery, C
 use Rattle.km_base.specs.declared.acts.Reg.{Reg}
 use Rattle.km_base.specs.declared.acts.Answer.{Answer}
 use Rattle.km_base.specs.declared.acts.Answer.TheVariants.{Done, At}
-use Rattle.km_base.specs.declared.acts.Refusal.{Refusal}
-use Rattle.km_base.specs.declared.acts.Refusal.TheVariants.{BadSize, BadAddress, SectionExists, TooManySections, TaskExists, TooManyTasks, NotAllocated, NoSlot, NotBoot, NotInside}
+use Rattle.km_base.specs.declared.acts.Refusal.TheVariants.{BadSize, BadAddress, SectionExists, TooManySections, TaskExists, TooManyTasks, NotAllocated, NoSlot, NotBoot}
 use Rattle.km_model.specs.History.{History, value_of}
 use Rattle.km_model.specs.Memory.{base, in_memory}
 use Rattle.km_model.specs.Blocks.{Block, is_within, contains, block_with, without_block, changed_where, painted_grey, painted_black, unscanned, is_among}
-use Rattle.km_model.specs.Placement.{Allocation, Use, SlotTable, SectionRun, StackPage, SlabBlock, LargeRun, PlainRun, BootRun, HeadBlock, AreaRun, page_start, pages_for, lowest_run, run_place, slab_place, lowest_slab, lowest_slot, next_head, area_place, kmalloc_place, kmalloc_span, kmalloc_use, slot_of_area, head_with, without_allocation}
+use Rattle.km_model.specs.Placement.{Allocation, Use, SlotTable, SectionRun, StackPage, SlabBlock, LargeRun, PlainRun, BootRun, HeadBlock, AreaRun, page_start, pages_for, lowest_run, run_place, lowest_slab, lowest_slot, next_head, area_place, kmalloc_place, kmalloc_span, kmalloc_use, slot_of_area, head_with, without_allocation}
 use Rattle.km_model.specs.Tasks.{Task, task_named, place_of, with_register, without_task}
 use Rattle.km_model.specs.World.{World, opening, next_block, with_block, with_rest, with_allocation, is_given, sections}
 use Rattle.km_model.specs.Past.{Past, world, is_refused}
@@ -22,47 +21,29 @@ use Rattle.km_model.specs.Verdict.{listing_ids}
 use Rattle.km_model.specs.Changes.{world_after_event, world_after_act, world_after_word, world_after_exit, with_section, with_task, with_vmalloc, world_after_vfree, world_without, world_without_part, with_boot, start_of}
 use Rattle.km_model.specs.Answers.{answer, unless, done_at, at_place, is_bad_size, is_uneven, is_kmalloc_at, is_plain_at, is_boot_with, part_answer, has_task}
 use Rattle.km_model.specs.Follows.{past_of, Follows}
-use Rattle.km_laws.specs.Placed.{BlocksApart, BlockPlaced, is_stack, is_boot, is_tracked}
+use Rattle.km_laws.specs.Placed.{BlocksApart, Words, BlockPlaced, is_stack, is_boot, is_tracked}
 use Rattle.km_laws.proofs.Lists.{Each, In, each_in, in_each, in_push_left, in_push_right, each_push, find_in, filter_in, any_in, pairs_in}
-use Rattle.km_laws.proofs.Pages.{run_is, run_is_free, Free}
-use Rattle.km_laws.proofs.Slabs.{slab_is_free, kmalloc_is_free, pages_some, pages_hold}
+use Rattle.km_laws.proofs.Pages.{run_is, run_is_free, words_some, Free}
+use Rattle.km_laws.proofs.Slabs.{slab_is_free, kmalloc_is_free, run_words, pages_words, pages_hold}
 use Rattle.km_laws.proofs.Placings.{Placed, StacksApart, apart_parts, one_with, one_at, clear_of, beside, allocated, block_added, block_allocated, task_added, blocks_fewer, blocks_none, tasks_fewer, blocks_changed, tasks_changed, given_back}
+use Rattle.km_laws.proofs.Since.{IsAnswered, follows_answered}
+use Rattle.km_laws.proofs.Accepted.{unless_open, done_open, at_open, good_size, even_size, memory_word, words_between, end_word, part_open, run_more, kmalloc_more, area_open, area_more}
+use Rattle.km_laws.proofs.Uses.{plain_kind, boot_kind, PlainlyAt, kmalloc_at, area_at, head_at}
 
 -- what stands is placed
 abbrev pub PlacedIn : ℕ → World → Type 0
 PlacedIn words w = Placed words w.used w.blocks w.tasks
 
--- what an accepted answer says
-unless_open : (fails : Bool) (refusal : Refusal) (s : Answer) → is_refused (unless fails refusal s) ≡ false → (fails ≡ false) × (unless fails refusal s ≡ s) × (is_refused s ≡ false)
-unless_open true refusal s h = absurd cc
-unless_open false refusal s h = (refl, refl, h)
-
-done_open : (o : Option ℕ) → is_refused (done_at o) ≡ false → (a : ℕ) × (o ≡ Some a)
-done_open None h = absurd cc
-done_open (Some a) h = (a, refl)
-
-at_open : (o : Option ℕ) → is_refused (at_place o) ≡ false → (a : ℕ) × (o ≡ Some a) × (at_place o ≡ At a)
-at_open None h = absurd cc
-at_open (Some a) h = (a, refl, refl)
-
-good_size : (limit size : ℕ) → is_bad_size limit size ≡ false → 0 < size
-good_size limit size h =
-    let k = eqb-false size 0 (or_parts (size == 0) (nat_lt limit size) h).0 in omega (arith, k)
-
-even_size : (size : ℕ) → is_uneven size ≡ false → 0 < size
-even_size size h =
-    let k = eqb-false size 0 (or_parts (size == 0) (not (size % 8 == 0)) h).0 in omega (arith, k)
-
 -- an allocation is made, with a block that is registered unless `off` was written
 block_made : (words : ℕ) (w : World) (what : Use) (start size bytes references : ℕ) (excess : Option ℕ) → Free words w.used (record { «use» = what; start = start; size = size })
-    → is_tracked (record { «use» = what; start = start; size = size }) ≡ true → bytes ≤ size → PlacedIn words w
+    → is_tracked (record { «use» = what; start = start; size = size }) ≡ true → bytes ≤ size → Words bytes → PlacedIn words w
     → PlacedIn words (with_block (with_allocation w what start size) start bytes references excess)
-block_made words w what start size bytes references excess free tracked le p =
+block_made words w what start size bytes references excess free tracked le whole p =
     let z : Allocation = record { «use» = what; start = start; size = size } in
     elim w.enabled as (λ q. PlacedIn words (if q
     then record (with_allocation w what start size) { registered = w.registered + 1; blocks = w.blocks ++ next_block (with_allocation w what start size) start bytes references excess ∷ [] }
     else with_allocation w what start size)) [
-      | true ↦ block_allocated words w.used w.blocks w.tasks z (next_block (with_allocation w what start size) start bytes references excess) free tracked refl le p
+      | true ↦ block_allocated words w.used w.blocks w.tasks z (next_block (with_allocation w what start size) start bytes references excess) free tracked refl le whole p
       | false ↦ allocated words w.used w.blocks w.tasks z free p
     ]
 
@@ -73,15 +54,15 @@ section_placed words w name n a some h p =
     let m = lowest_run w.used (pages_for (8 * n)) in
     let z : Allocation = record { «use» = SectionRun name; start = page_start (lowest_run w.used (pages_for (8 * n))); size = 4096 * pages_for (8 * n) } in
     block_made words w (SectionRun name) (page_start (lowest_run w.used (pages_for (8 * n)))) (4096 * pages_for (8 * n)) (8 * n) 0 None
-    (run_is_free words w.used (pages_for (8 * n)) z r.0 refl (pages_some (8 * n) (omega (arith, some))) (omega arith) (λ e. absurd cc))
-    refl (pages_hold (8 * n)) p
+    (run_is_free words w.used (pages_for (8 * n)) z r.0 refl (pages_words (8 * n) (omega (arith, some))) (omega arith) (λ e. absurd cc))
+    refl (pages_hold (8 * n)) (n - 1, omega (arith, some)) p
 
 start_placed : (words : ℕ) (w : World) (name : List ℕ) (a : ℕ) → run_place words w.used 1 ≡ Some a → PlacedIn words w → PlacedIn words (with_task w name (page_start (lowest_run w.used 1)))
 start_placed words w name a h p =
     let r = run_is words w.used 1 a h in
     let z : Allocation = record { «use» = StackPage; start = page_start (lowest_run w.used 1); size = 4096 } in
     task_added words w.used w.blocks w.tasks z (record { number = w.started + 1; name = name; stack = page_start (lowest_run w.used 1); registers = replicate 4 0 })
-    (run_is_free words w.used 1 z r.0 refl (omega arith) (omega arith) (λ e. absurd cc)) refl refl refl p
+    (run_is_free words w.used 1 z r.0 refl (511, refl) (omega arith) (λ e. absurd cc)) refl refl refl p
 
 pub stack_kind : (u : Use) → (elim u as (λ _. Bool) [ StackPage ↦ true | _ ↦ false ]) ≡ true → (elim u as (λ _. Bool) [ StackPage ↦ false | PlainRun ↦ false | _ ↦ true ]) ≡ true → ⊥
 stack_kind StackPage e f = cc
@@ -120,29 +101,23 @@ tracked_kmalloc size a span =
 kmalloc_placed : (words : ℕ) (w : World) (size a : ℕ) → 0 < size → kmalloc_place words w.used size ≡ Some a → PlacedIn words w
     → PlacedIn words (with_block (with_allocation w (kmalloc_use size) a (kmalloc_span size)) a (kmalloc_span size) 1 None)
 kmalloc_placed words w size a some h p =
-    block_made words w (kmalloc_use size) a (kmalloc_span size) (kmalloc_span size) 1 None (kmalloc_is_free words w.used size a some p.sound p.pages h)
-    (tracked_kmalloc size a (kmalloc_span size)) (omega arith) p
+    let free = kmalloc_is_free words w.used size a some p.sound p.pages h in
+    block_made words w (kmalloc_use size) a (kmalloc_span size) (kmalloc_span size) 1 None free
+    (tracked_kmalloc size a (kmalloc_span size)) (omega arith) free.0.3.1 p
 
 pages_placed : (words : ℕ) (w : World) (n a : ℕ) → 0 < n → run_place words w.used n ≡ Some a → PlacedIn words w → PlacedIn words (with_allocation w PlainRun a (4096 * n))
 pages_placed words w n a some h p =
     let r = run_is words w.used n a h in
     allocated words w.used w.blocks w.tasks (record { «use» = PlainRun; start = a; size = 4096 * n })
-    (run_is_free words w.used n (record { «use» = PlainRun; start = a; size = 4096 * n }) r.0 r.1 (omega (arith, some)) (omega arith) (λ e. absurd cc)) p
+    (run_is_free words w.used n (record { «use» = PlainRun; start = a; size = 4096 * n }) r.0 r.1 (run_words n some) (omega arith) (λ e. absurd cc)) p
 
-boot_placed : (words : ℕ) (w : World) (size a : ℕ) → 0 < size → run_place words w.used (pages_for size) ≡ Some a → PlacedIn words w
+boot_placed : (words : ℕ) (w : World) (size a : ℕ) → Words size → run_place words w.used (pages_for size) ≡ Some a → PlacedIn words w
     → PlacedIn words (with_block (with_allocation w BootRun a (4096 * pages_for size)) a size 0 None)
-boot_placed words w size a some h p =
+boot_placed words w size a whole h p =
     let r = run_is words w.used (pages_for size) a h in
     let z : Allocation = record { «use» = BootRun; start = a; size = 4096 * pages_for size } in
     block_made words w BootRun a (4096 * pages_for size) size 0 None
-    (run_is_free words w.used (pages_for size) z r.0 r.1 (pages_some size some) (omega arith) (λ e. absurd cc)) refl (pages_hold size) p
-
--- a head, and the area behind it
-area_open : (words : ℕ) (used : List Allocation) (size area : ℕ) (o : Option ℕ)
-    → (elim o as (λ _. Option ℕ) [ None ↦ None | Some a ↦ run_place words (used ++ next_head used a ∷ []) (pages_for size) ]) ≡ Some area
-    → (head : ℕ) × (o ≡ Some head) × (run_place words (used ++ next_head used head ∷ []) (pages_for size) ≡ Some area)
-area_open words used size area None h = absurd cc
-area_open words used size area (Some a) h = (a, refl, h)
+    (run_is_free words w.used (pages_for size) z r.0 r.1 (pages_words size (words_some size whole)) (omega arith) (λ e. absurd cc)) refl (pages_hold size) whole p
 
 -- what a registration leaves alone, and what it adds
 register_used : (v : World) (start size references : ℕ) (excess : Option ℕ) → (with_block v start size references excess).used ≡ v.used
@@ -167,95 +142,30 @@ register_placed words v start size references excess place apart p =
 
 vmalloc_placed : (words : ℕ) (w : World) (size area : ℕ) → 0 < size → area_place words w.used size ≡ Some area → PlacedIn words w → PlacedIn words (with_vmalloc w size (lowest_slab w.used 64) area)
 vmalloc_placed words w size area some h p =
-    let k = area_open words w.used size area (slab_place words w.used 64) h in
+    let k = area_open words w.used size area h in
     let head : ℕ = k.0 in
     let span : ℕ = 4096 * pages_for size in
     let z : Allocation = next_head w.used head in
-    let free = slab_is_free words w.used 64 z (omega arith) (omega arith) p.sound p.pages refl refl k.1 in
+    let free = slab_is_free words w.used 64 z (7, refl) (omega arith) p.sound p.pages refl refl k.1 in
     let used : List Allocation = w.used ++ z ∷ [] in
     let r = run_is words used (pages_for size) area k.2 in
     let y : Allocation = record { «use» = AreaRun (lowest_slot w.used); start = area; size = span } in
-    let free' = run_is_free words used (pages_for size) y r.0 r.1 (pages_some size some) (omega arith) (λ e. absurd cc) in
+    let free' = run_is_free words used (pages_for size) y r.0 r.1 (pages_words size some) (omega arith) (λ e. absurd cc) in
     let placed : World = with_allocation (with_allocation w (HeadBlock (lowest_slot w.used)) head 64) (AreaRun (lowest_slot w.used)) area span in
     let first : World = with_block placed head 64 1 (Some area) in
     let p1 = allocated words w.used w.blocks w.tasks z free.0 p in
     let p2 : PlacedIn words placed = allocated words used w.blocks w.tasks y free' p1 in
     let b : Block = next_block placed head 64 1 (Some area) in
     let c : Block = next_block first area span 2 None in
-    let b_in : BlockPlaced placed.used b = (z, in_push_left used z y (in_push_right w.used z), refl, omega arith, omega arith, inl refl) in
+    let b_in : BlockPlaced placed.used b = (z, in_push_left used z y (in_push_right w.used z), refl, omega arith, omega arith, inl refl, free.0.0.3) in
     let b_clear : Each (λ d. BlocksApart d b) placed.blocks = clear_of words w.used w.blocks w.tasks z b free.0 refl (omega arith) p in
-    let c_in : BlockPlaced placed.used c = (y, in_push_right used y, refl, omega arith, omega arith, inl refl) in
+    let c_in : BlockPlaced placed.used c = (y, in_push_right used y, refl, omega arith, omega arith, inl refl, free'.0.3) in
     let c_clear : Each (λ d. BlocksApart d c) first.blocks =
     register_each (λ d. BlocksApart d c) placed head 64 1 (Some area) (clear_of words used w.blocks w.tasks y c free' refl (omega arith) p1)
     (beside words used w.blocks w.tasks z y p1 free' (in_push_right w.used z)) in
     let p3 : PlacedIn words first = register_placed words placed head 64 1 (Some area) b_in b_clear p2 in
     subst (λ (a : ℕ). PlacedIn words (with_vmalloc w size a area)) (sym free.1)
     (register_placed words first area span 2 None (subst (λ u. BlockPlaced u c) (sym (register_used placed head 64 1 (Some area))) c_in) c_clear p3)
-
--- what an allocation is, by its use
-kmalloc_kind : (u : Use) (r : Bool) → (elim u as (λ _. Bool) [ SlabBlock ↦ r | LargeRun ↦ r | _ ↦ false ]) ≡ true
-    → (r ≡ true) × ((elim u as (λ _. Bool) [ BootRun ↦ true | _ ↦ false ]) ≡ false) × ((elim u as (λ _. Bool) [ StackPage ↦ true | _ ↦ false ]) ≡ false)
-kmalloc_kind SlabBlock r e = (e, refl, refl)
-kmalloc_kind LargeRun r e = (e, refl, refl)
-kmalloc_kind _ r e = absurd cc
-
-plain_kind : (u : Use) (r : Bool) → (elim u as (λ _. Bool) [ PlainRun ↦ r | _ ↦ false ]) ≡ true
-    → (r ≡ true) × ((elim u as (λ _. Bool) [ StackPage ↦ false | PlainRun ↦ false | _ ↦ true ]) ≡ false) × ((elim u as (λ _. Bool) [ StackPage ↦ true | _ ↦ false ]) ≡ false)
-plain_kind PlainRun r e = (e, refl, refl)
-plain_kind _ r e = absurd cc
-
-boot_kind : (u : Use) (r : Bool) → (elim u as (λ _. Bool) [ BootRun ↦ r | _ ↦ false ]) ≡ true
-    → (r ≡ true) × ((elim u as (λ _. Bool) [ BootRun ↦ true | _ ↦ false ]) ≡ true)
-boot_kind BootRun r e = (e, refl)
-boot_kind _ r e = absurd cc
-
--- a live allocation that begins at an address, and is neither boot memory nor a stack
-abbrev PlainlyAt : List Allocation → ℕ → Type 0
-PlainlyAt used a = (y : Allocation) × In y used × (y.start ≡ a) × (is_boot y ≡ false) × (is_stack y ≡ false)
-
-kmalloc_at : (used : List Allocation) (a : ℕ) → list_any (is_kmalloc_at a) used ≡ true → PlainlyAt used a
-kmalloc_at used a h =
-    let y = any_in (is_kmalloc_at a) used h in
-    let k = kmalloc_kind y.0.«use» (y.0.start == a) y.2 in
-    (y.0, y.1, eqb-true y.0.start a k.0, k.1, k.2)
-
-area_kind : (used : List Allocation) (x : Allocation) (a s : ℕ) (u : Use) → x.«use» ≡ u
-    → (elim u as (λ _. Option ℕ) [ AreaRun t ↦ if x.start == a then Some t else slot_of_area used a | _ ↦ slot_of_area used a ]) ≡ Some s
-    → ((x.start ≡ a) × (is_boot x ≡ false) × (is_stack x ≡ false)) ⊎ (slot_of_area used a ≡ Some s)
-area_kind used x a s (AreaRun t) e h =
-    let P = λ (q : Bool). (x.start == a) ≡ q → (if q then Some t else slot_of_area used a) ≡ Some s → ((x.start ≡ a) × (is_boot x ≡ false) × (is_stack x ≡ false)) ⊎ (slot_of_area used a ≡ Some s) in
-    elim (x.start == a) as P [
-      | true ↦ λ f _. inl (eqb-true x.start a f, subst (λ v. (elim v as (λ _. Bool) [ BootRun ↦ true | _ ↦ false ]) ≡ false) (sym e) refl, subst (λ v. (elim v as (λ _. Bool) [ StackPage ↦ true | _ ↦ false ]) ≡ false) (sym e) refl)
-      | false ↦ λ f g. inr g
-    ] refl h
-area_kind used x a s _ e h = inr h
-
-area_at : (used : List Allocation) (a s : ℕ) → slot_of_area used a ≡ Some s → PlainlyAt used a
-area_at [] a s h = absurd cc
-area_at (x ∷ used) a s h =
-    elim (area_kind used x a s x.«use» refl h) [
-      | inl here ↦ (x, inl refl, here.0, here.1, here.2)
-      | inr later ↦ let y = area_at used a s later in (y.0, inr y.1, y.2, y.3, y.4)
-    ]
-
-head_kind : (used : List Allocation) (x : Allocation) (s head : ℕ) (u : Use) → x.«use» ≡ u
-    → (elim u as (λ _. Option ℕ) [ HeadBlock t ↦ if t == s then Some x.start else head_with used s | _ ↦ head_with used s ]) ≡ Some head
-    → ((x.start ≡ head) × (is_boot x ≡ false) × (is_stack x ≡ false)) ⊎ (head_with used s ≡ Some head)
-head_kind used x s head (HeadBlock t) e h =
-    let P = λ (q : Bool). (if q then Some x.start else head_with used s) ≡ Some head → ((x.start ≡ head) × (is_boot x ≡ false) × (is_stack x ≡ false)) ⊎ (head_with used s ≡ Some head) in
-    elim (t == s) as P [
-      | true ↦ λ f. inl (cc, subst (λ v. (elim v as (λ _. Bool) [ BootRun ↦ true | _ ↦ false ]) ≡ false) (sym e) refl, subst (λ v. (elim v as (λ _. Bool) [ StackPage ↦ true | _ ↦ false ]) ≡ false) (sym e) refl)
-      | false ↦ λ g. inr g
-    ] h
-head_kind used x s head _ e h = inr h
-
-head_at : (used : List Allocation) (s head : ℕ) → head_with used s ≡ Some head → PlainlyAt used head
-head_at [] s head h = absurd cc
-head_at (x ∷ used) s head h =
-    elim (head_kind used x s head x.«use» refl h) [
-      | inl here ↦ (x, inl refl, here.0, here.1, here.2)
-      | inr later ↦ let y = head_at used s head later in (y.0, inr y.1, y.2, y.3, y.4)
-    ]
 
 -- what a live allocation that begins at an address is, each one that begins there is
 plainly : (words : ℕ) (w : World) (a : ℕ) → PlacedIn words w → PlainlyAt w.used a → (x : Allocation) → In x w.used → x.start ≡ a → (is_boot x ≡ false) × (is_stack x ≡ false)
@@ -321,24 +231,19 @@ rest_used w b start size =
       | false ↦ refl
     ]
 
-rest_placed : (words : ℕ) (w : World) (b : Block) (start size : ℕ) → BlockPlaced w.used (record b { id = w.registered; start = start; size = size; areas = []; excess = None })
+rest_placed : (words : ℕ) (w : World) (b : Block) (start size : ℕ) → (0 < size → BlockPlaced w.used (record b { id = w.registered; start = start; size = size; areas = []; excess = None }))
     → Each (λ c. BlocksApart c (record b { id = w.registered; start = start; size = size; areas = []; excess = None })) w.blocks → PlacedIn words w → PlacedIn words (with_rest w b start size)
 rest_placed words w b start size place apart p =
     let rest : Block = record b { id = w.registered; start = start; size = size; areas = []; excess = None } in
-    elim (w.enabled && nat_lt 0 size) as (λ q. PlacedIn words (if q then record w { registered = w.registered + 1; blocks = w.blocks ++ rest ∷ [] } else w)) [
-      | true ↦ block_added words w.used w.blocks w.tasks rest place apart p
-      | false ↦ p
-    ]
+    let P = λ (q : Bool). (w.enabled && nat_lt 0 size) ≡ q → PlacedIn words (if q then record w { registered = w.registered + 1; blocks = w.blocks ++ rest ∷ [] } else w) in
+    elim (w.enabled && nat_lt 0 size) as P [
+      | true ↦ λ e. block_added words w.used w.blocks w.tasks rest (place (ltb-true 0 size (and_parts w.enabled (nat_lt 0 size) e).1)) apart p
+      | false ↦ λ e. p
+    ] refl
 
-part_open : (o : Option Block) (end : ℕ) → is_refused (part_answer o end) ≡ false → (b : Block) × (o ≡ Some b) × (end ≤ b.start + b.size)
-part_open None end h = absurd cc
-part_open (Some b) end h =
-    let k = unless_open (nat_lt (b.start + b.size) end) NotInside Done h in
-    (b, refl, ltb-false (b.start + b.size) end k.0)
-
-part_placed : (words : ℕ) (w : World) (a size : ℕ) (b : Block) → list_any (is_boot_with a) w.used ≡ true → block_with w.blocks a ≡ Some b → a + size ≤ b.start + b.size → PlacedIn words w
+part_placed : (words : ℕ) (w : World) (a size : ℕ) (b : Block) → list_any (is_boot_with a) w.used ≡ true → block_with w.blocks a ≡ Some b → a + size ≤ b.start + b.size → (i : ℕ) × (a ≡ base + 8 * i) → Words size → PlacedIn words w
     → PlacedIn words (world_without_part w a size (Some b))
-part_placed words w a size b boot found end p =
+part_placed words w a size b boot found end word whole p =
     let f = find_in (contains a) w.blocks b found in
     let within = and_parts (nat_le b.start a) (nat_lt a (b.start + b.size)) f.0 in
     let low : b.start ≤ a = leb-true b.start a within.0 in
@@ -367,14 +272,32 @@ part_placed words w a size b boot found end p =
     λ c start length apart lo hi. apart_parts c.start c.size b.start b.size c.start c.size start length apart (omega arith) (omega arith) lo hi in
     let first_apart : Each (λ c. BlocksApart c first) left.blocks =
     in_each (λ c. BlocksApart c first) left.blocks (λ c i. part_of c b.start (a - b.start) (each_in (λ c. BlocksApart c b) left.blocks c others i) (omega arith) (omega (arith, low, high))) in
-    let first_in : BlockPlaced left.used first = (x, place.1, place.2, x_low, omega (arith, low, high, x_high), inl_or_boot is_boot_x) in
+    let first_in : 0 < a - b.start → BlockPlaced left.used first = λ some. (
+      x,
+      place.1,
+      place.2,
+      x_low,
+      omega (arith, low, high, x_high),
+      inl_or_boot is_boot_x,
+      (place.6.0, words_between base place.6.0.0 word.0 b.start a place.6.0.1 word.1 some),
+    ) in
     let p2 : PlacedIn words middle = rest_placed words left b b.start (a - b.start) first_in first_apart p1 in
     let last_apart : Each (λ c. BlocksApart c last) middle.blocks =
     rest_each (λ c. BlocksApart c last) left b b.start (a - b.start)
     (in_each (λ c. BlocksApart c last) left.blocks (λ c i. part_of c (a + size) (b.start + b.size - (a + size)) (each_in (λ c. BlocksApart c b) left.blocks c others i) (omega (arith, low)) (omega (arith, end))))
     (inl (omega (arith, low))) in
-    let last_in : BlockPlaced left.used last = (x, place.1, place.2, omega (arith, x_low, low), omega (arith, end, x_high), inl_or_boot is_boot_x) in
-    rest_placed words middle b (a + size) (b.start + b.size - (a + size)) (subst (λ u. BlockPlaced u last) (sym (rest_used left b b.start (a - b.start))) last_in) last_apart p2 where
+    let part_end : a + size ≡ base + 8 * (word.0 + suc whole.0) = end_word base word.0 whole.0 a size word.1 whole.1 in
+    let block_end : b.start + b.size ≡ base + 8 * (place.6.0.0 + suc place.6.1.0) = end_word base place.6.0.0 place.6.1.0 b.start b.size place.6.0.1 place.6.1.1 in
+    let last_in : 0 < b.start + b.size - (a + size) → BlockPlaced left.used last = λ some. (
+      x,
+      place.1,
+      place.2,
+      omega (arith, x_low, low),
+      omega (arith, end, x_high),
+      inl_or_boot is_boot_x,
+      ((word.0 + suc whole.0, part_end), words_between base (word.0 + suc whole.0) (place.6.0.0 + suc place.6.1.0) (a + size) (b.start + b.size) part_end block_end some),
+    ) in
+    rest_placed words middle b (a + size) (b.start + b.size - (a + size)) (λ some. subst (λ u. BlockPlaced u last) (sym (rest_used left b b.start (a - b.start))) (last_in some)) last_apart p2 where
       inl_or_boot : {P Q : Type 0} → Q → P ⊎ Q
       inl_or_boot q = inr q
 
@@ -400,60 +323,60 @@ written_placed words w listed Clear p =
     (where_placed words w (λ b. is_among b.id listed) painted_grey (λ b. (refl, refl)) p) (blocks_none words w.used w.blocks w.tasks p)
 written_placed words w listed _ p = p
 
-kmalloc_act : (words : ℕ) (w : World) (size : ℕ) → (s : Answer) → s ≡ unless (is_bad_size 32768 size) BadSize (at_place (kmalloc_place words w.used size)) → is_refused s ≡ false → PlacedIn words w
-    → PlacedIn words (with_block (with_allocation w (kmalloc_use size) (start_of s) (kmalloc_span size)) (start_of s) (kmalloc_span size) 1 None)
-kmalloc_act words w size s e ok p =
+kmalloc_act : (words room : ℕ) → words ≤ room → (w : World) (size : ℕ) → (s : Answer) → s ≡ unless (is_bad_size 32768 size) BadSize (at_place (kmalloc_place words w.used size)) → is_refused s ≡ false → PlacedIn room w
+    → PlacedIn room (with_block (with_allocation w (kmalloc_use size) (start_of s) (kmalloc_span size)) (start_of s) (kmalloc_span size) 1 None)
+kmalloc_act words room le w size s e ok p =
     let u = unless_open (is_bad_size 32768 size) BadSize (at_place (kmalloc_place words w.used size)) (subst (λ (t : Answer). is_refused t ≡ false) e ok) in
     let k = at_open (kmalloc_place words w.used size) u.2 in
     let same : s ≡ At k.0 = e ∙ u.1 ∙ k.2 in
-    subst (λ (t : Answer). PlacedIn words (with_block (with_allocation w (kmalloc_use size) (start_of t) (kmalloc_span size)) (start_of t) (kmalloc_span size) 1 None)) (sym same)
-    (kmalloc_placed words w size k.0 (good_size 32768 size u.0) k.1 p)
+    subst (λ (t : Answer). PlacedIn room (with_block (with_allocation w (kmalloc_use size) (start_of t) (kmalloc_span size)) (start_of t) (kmalloc_span size) 1 None)) (sym same)
+    (kmalloc_placed room w size k.0 (good_size 32768 size u.0) (kmalloc_more words room w.used size k.0 le k.1) p)
 
-pages_act : (words : ℕ) (w : World) (n : ℕ) → (s : Answer) → s ≡ unless (is_bad_size 1024 n) BadSize (at_place (run_place words w.used n)) → is_refused s ≡ false → PlacedIn words w
-    → PlacedIn words (with_allocation w PlainRun (start_of s) (4096 * n))
-pages_act words w n s e ok p =
+pages_act : (words room : ℕ) → words ≤ room → (w : World) (n : ℕ) → (s : Answer) → s ≡ unless (is_bad_size 1024 n) BadSize (at_place (run_place words w.used n)) → is_refused s ≡ false → PlacedIn room w
+    → PlacedIn room (with_allocation w PlainRun (start_of s) (4096 * n))
+pages_act words room le w n s e ok p =
     let u = unless_open (is_bad_size 1024 n) BadSize (at_place (run_place words w.used n)) (subst (λ (t : Answer). is_refused t ≡ false) e ok) in
     let k = at_open (run_place words w.used n) u.2 in
     let same : s ≡ At k.0 = e ∙ u.1 ∙ k.2 in
-    subst (λ (t : Answer). PlacedIn words (with_allocation w PlainRun (start_of t) (4096 * n))) (sym same) (pages_placed words w n k.0 (good_size 1024 n u.0) k.1 p)
+    subst (λ (t : Answer). PlacedIn room (with_allocation w PlainRun (start_of t) (4096 * n))) (sym same) (pages_placed room w n k.0 (good_size 1024 n u.0) (run_more words room w.used n k.0 le k.1) p)
 
-vmalloc_act : (words : ℕ) (w : World) (size : ℕ) → (s : Answer)
-    → s ≡ unless (is_bad_size 1048576 size) BadSize (unless (lowest_slot w.used == 512) NoSlot (at_place (area_place words w.used size))) → is_refused s ≡ false → PlacedIn words w
-    → PlacedIn words (with_vmalloc w size (lowest_slab w.used 64) (start_of s))
-vmalloc_act words w size s e ok p =
+vmalloc_act : (words room : ℕ) → words ≤ room → (w : World) (size : ℕ) → (s : Answer)
+    → s ≡ unless (is_bad_size 1048576 size) BadSize (unless (lowest_slot w.used == 512) NoSlot (at_place (area_place words w.used size))) → is_refused s ≡ false → PlacedIn room w
+    → PlacedIn room (with_vmalloc w size (lowest_slab w.used 64) (start_of s))
+vmalloc_act words room le w size s e ok p =
     let u = unless_open (is_bad_size 1048576 size) BadSize (unless (lowest_slot w.used == 512) NoSlot (at_place (area_place words w.used size))) (subst (λ (t : Answer). is_refused t ≡ false) e ok) in
     let v = unless_open (lowest_slot w.used == 512) NoSlot (at_place (area_place words w.used size)) u.2 in
     let k = at_open (area_place words w.used size) v.2 in
     let same : s ≡ At k.0 = e ∙ u.1 ∙ v.1 ∙ k.2 in
-    subst (λ (t : Answer). PlacedIn words (with_vmalloc w size (lowest_slab w.used 64) (start_of t))) (sym same) (vmalloc_placed words w size k.0 (good_size 1048576 size u.0) k.1 p)
+    subst (λ (t : Answer). PlacedIn room (with_vmalloc w size (lowest_slab w.used 64) (start_of t))) (sym same) (vmalloc_placed room w size k.0 (good_size 1048576 size u.0) (area_more words room w.used size k.0 le k.1) p)
 
-boot_act : (words : ℕ) (w : World) (size : ℕ) → (s : Answer) → s ≡ unless (is_uneven size || nat_lt 1048576 size) BadSize (at_place (run_place words w.used (pages_for size))) → is_refused s ≡ false → PlacedIn words w
-    → PlacedIn words (with_boot w size (start_of s))
-boot_act words w size s e ok p =
+boot_act : (words room : ℕ) → words ≤ room → (w : World) (size : ℕ) → (s : Answer) → s ≡ unless (is_uneven size || nat_lt 1048576 size) BadSize (at_place (run_place words w.used (pages_for size))) → is_refused s ≡ false → PlacedIn room w
+    → PlacedIn room (with_boot w size (start_of s))
+boot_act words room le w size s e ok p =
     let u = unless_open (is_uneven size || nat_lt 1048576 size) BadSize (at_place (run_place words w.used (pages_for size))) (subst (λ (t : Answer). is_refused t ≡ false) e ok) in
     let k = at_open (run_place words w.used (pages_for size)) u.2 in
     let same : s ≡ At k.0 = e ∙ u.1 ∙ k.2 in
-    subst (λ (t : Answer). PlacedIn words (with_boot w size (start_of t))) (sym same)
-    (boot_placed words w size k.0 (even_size size (or_parts (is_uneven size) (nat_lt 1048576 size) u.0).0) k.1 p)
+    subst (λ (t : Answer). PlacedIn room (with_boot w size (start_of t))) (sym same)
+    (boot_placed room w size k.0 (even_size size (or_parts (is_uneven size) (nat_lt 1048576 size) u.0).0) (run_more words room w.used (pages_for size) k.0 le k.1) p)
 
-section_act : (words : ℕ) (w : World) (name : List ℕ) (n : ℕ)
+section_act : (words room : ℕ) → words ≤ room → (w : World) (name : List ℕ) (n : ℕ)
     → is_refused (unless (is_bad_size 4096 n) BadSize (unless (is_given w.used name) SectionExists (unless (sections w.used == 32) TooManySections (done_at (run_place words w.used (pages_for (8 * n))))))) ≡ false
-    → PlacedIn words w → PlacedIn words (with_section w name n (page_start (lowest_run w.used (pages_for (8 * n)))))
-section_act words w name n ok p =
+    → PlacedIn room w → PlacedIn room (with_section w name n (page_start (lowest_run w.used (pages_for (8 * n)))))
+section_act words room le w name n ok p =
     let u = unless_open (is_bad_size 4096 n) BadSize (unless (is_given w.used name) SectionExists (unless (sections w.used == 32) TooManySections (done_at (run_place words w.used (pages_for (8 * n)))))) ok in
     let v = unless_open (is_given w.used name) SectionExists (unless (sections w.used == 32) TooManySections (done_at (run_place words w.used (pages_for (8 * n))))) u.2 in
     let t = unless_open (sections w.used == 32) TooManySections (done_at (run_place words w.used (pages_for (8 * n)))) v.2 in
     let k = done_open (run_place words w.used (pages_for (8 * n))) t.2 in
-    section_placed words w name n k.0 (good_size 4096 n u.0) k.1 p
+    section_placed room w name n k.0 (good_size 4096 n u.0) (run_more words room w.used (pages_for (8 * n)) k.0 le k.1) p
 
-start_act : (words : ℕ) (w : World) (name : List ℕ)
+start_act : (words room : ℕ) → words ≤ room → (w : World) (name : List ℕ)
     → is_refused (unless (has_task w name) TaskExists (unless (length w.tasks == 64) TooManyTasks (done_at (run_place words w.used 1)))) ≡ false
-    → PlacedIn words w → PlacedIn words (with_task w name (page_start (lowest_run w.used 1)))
-start_act words w name ok p =
+    → PlacedIn room w → PlacedIn room (with_task w name (page_start (lowest_run w.used 1)))
+start_act words room le w name ok p =
     let u = unless_open (has_task w name) TaskExists (unless (length w.tasks == 64) TooManyTasks (done_at (run_place words w.used 1))) ok in
     let v = unless_open (length w.tasks == 64) TooManyTasks (done_at (run_place words w.used 1)) u.2 in
     let k = done_open (run_place words w.used 1) v.2 in
-    start_placed words w name k.0 k.1 p
+    start_placed room w name k.0 (run_more words room w.used 1 k.0 le k.1) p
 
 free_act : (words : ℕ) (w : World) (a : ℕ) → is_refused (unless (not (list_any (is_kmalloc_at a) w.used)) NotAllocated Done) ≡ false → PlacedIn words w → PlacedIn words (world_without w a)
 free_act words w a ok p =
@@ -465,61 +388,66 @@ free_pages_act words w a ok p =
     let u = unless_open (not (list_any (is_plain_at a) w.used)) NotAllocated Done ok in
     plain_placed words w a (not-false (list_any (is_plain_at a) w.used) u.0) p
 
-part_act : (words : ℕ) (w : World) (a size : ℕ)
+part_act : (words room : ℕ) (w : World) (a size : ℕ)
     → is_refused (unless (not (in_memory words a)) BadAddress (unless (is_uneven size) BadSize (unless (not (list_any (is_boot_with a) w.used)) NotBoot (part_answer (block_with w.blocks a) (a + size))))) ≡ false
-    → PlacedIn words w → PlacedIn words (world_without_part w a size (block_with w.blocks a))
-part_act words w a size ok p =
+    → PlacedIn room w → PlacedIn room (world_without_part w a size (block_with w.blocks a))
+part_act words room w a size ok p =
     let u = unless_open (not (in_memory words a)) BadAddress (unless (is_uneven size) BadSize (unless (not (list_any (is_boot_with a) w.used)) NotBoot (part_answer (block_with w.blocks a) (a + size)))) ok in
     let v = unless_open (is_uneven size) BadSize (unless (not (list_any (is_boot_with a) w.used)) NotBoot (part_answer (block_with w.blocks a) (a + size))) u.2 in
     let t = unless_open (not (list_any (is_boot_with a) w.used)) NotBoot (part_answer (block_with w.blocks a) (a + size)) v.2 in
     let k = part_open (block_with w.blocks a) (a + size) t.2 in
-    subst (λ (o : Option Block). PlacedIn words (world_without_part w a size o)) (sym k.1)
-    (part_placed words w a size k.0 (not-false (list_any (is_boot_with a) w.used) t.0) k.1 k.2 p)
+    subst (λ (o : Option Block). PlacedIn room (world_without_part w a size o)) (sym k.1)
+    (part_placed room w a size k.0 (not-false (list_any (is_boot_with a) w.used) t.0) k.1 k.2 (memory_word words a (not-false (in_memory words a) u.0)) (even_size size v.0) p)
 
-act_placed : (words : ℕ) (past : Past) (listed : List ℕ) (act : Act) (v : ℕ) (s : Answer) → s ≡ answer words past act v → is_refused s ≡ false → PlacedIn words (world past)
-    → PlacedIn words (world_after_act (world past) listed act s)
+act_placed : (words room : ℕ) → words ≤ room → (past : Past) (listed : List ℕ) (act : Act) (v : ℕ) (s : Answer) → s ≡ answer words past act v → is_refused s ≡ false → PlacedIn room (world past)
+    → PlacedIn room (world_after_act (world past) listed act s)
 unfolding answer world_after_act
-act_placed words past listed (Section name n) v s e ok p = section_act words (world past) name n (subst (λ (t : Answer). is_refused t ≡ false) e ok) p
-act_placed words past listed (TaskStart name) v s e ok p = start_act words (world past) name (subst (λ (t : Answer). is_refused t ≡ false) e ok) p
-act_placed words past listed (TaskExit name) v s e ok p = exit_placed words (world past) name (task_named (world past).tasks name) refl p
-act_placed words past listed (SetReg task reg value) v s e ok p = set_placed words (world past) task reg value p
-act_placed words past listed (Load task reg _) v s e ok p = set_placed words (world past) task reg (value_of s) p
-act_placed words past listed (Kmalloc size) v s e ok p = kmalloc_act words (world past) size s e ok p
-act_placed words past listed (Kfree a) v s e ok p = free_act words (world past) a (subst (λ (t : Answer). is_refused t ≡ false) e ok) p
-act_placed words past listed (Pages n) v s e ok p = pages_act words (world past) n s e ok p
-act_placed words past listed (FreePages a) v s e ok p = free_pages_act words (world past) a (subst (λ (t : Answer). is_refused t ≡ false) e ok) p
-act_placed words past listed (VmTake size) v s e ok p = vmalloc_act words (world past) size s e ok p
-act_placed words past listed (VmGive a) v s e ok p = vfree_placed words (world past) a (slot_of_area (world past).used a) refl p
-act_placed words past listed (BootMem size) v s e ok p = boot_act words (world past) size s e ok p
-act_placed words past listed (FreePart a size) v s e ok p = part_act words (world past) a size (subst (λ (t : Answer). is_refused t ≡ false) e ok) p
-act_placed words past listed (NotLeak a) v s e ok p = where_placed words (world past) _ painted_grey (λ b. (refl, refl)) p
-act_placed words past listed (Ignore a) v s e ok p = where_placed words (world past) _ painted_black (λ b. (refl, refl)) p
-act_placed words past listed (NoScan a) v s e ok p = where_placed words (world past) _ unscanned (λ b. (refl, refl)) p
-act_placed words past listed (ScanArea a size) v s e ok p = where_placed words (world past) (contains a) _ (λ b. (refl, refl)) p
-act_placed words past listed (File word) v s e ok p = written_placed words (world past) listed word p
-act_placed words past listed _ v s e ok p = p
+act_placed words room le past listed (Section name n) v s e ok p = section_act words room le (world past) name n (subst (λ (t : Answer). is_refused t ≡ false) e ok) p
+act_placed words room le past listed (TaskStart name) v s e ok p = start_act words room le (world past) name (subst (λ (t : Answer). is_refused t ≡ false) e ok) p
+act_placed words room le past listed (TaskExit name) v s e ok p = exit_placed room (world past) name (task_named (world past).tasks name) refl p
+act_placed words room le past listed (SetReg task reg value) v s e ok p = set_placed room (world past) task reg value p
+act_placed words room le past listed (Load task reg _) v s e ok p = set_placed room (world past) task reg (value_of s) p
+act_placed words room le past listed (Kmalloc size) v s e ok p = kmalloc_act words room le (world past) size s e ok p
+act_placed words room le past listed (Kfree a) v s e ok p = free_act room (world past) a (subst (λ (t : Answer). is_refused t ≡ false) e ok) p
+act_placed words room le past listed (Pages n) v s e ok p = pages_act words room le (world past) n s e ok p
+act_placed words room le past listed (FreePages a) v s e ok p = free_pages_act room (world past) a (subst (λ (t : Answer). is_refused t ≡ false) e ok) p
+act_placed words room le past listed (VmTake size) v s e ok p = vmalloc_act words room le (world past) size s e ok p
+act_placed words room le past listed (VmGive a) v s e ok p = vfree_placed room (world past) a (slot_of_area (world past).used a) refl p
+act_placed words room le past listed (BootMem size) v s e ok p = boot_act words room le (world past) size s e ok p
+act_placed words room le past listed (FreePart a size) v s e ok p = part_act words room (world past) a size (subst (λ (t : Answer). is_refused t ≡ false) e ok) p
+act_placed words room le past listed (NotLeak a) v s e ok p = where_placed room (world past) _ painted_grey (λ b. (refl, refl)) p
+act_placed words room le past listed (Ignore a) v s e ok p = where_placed room (world past) _ painted_black (λ b. (refl, refl)) p
+act_placed words room le past listed (NoScan a) v s e ok p = where_placed room (world past) _ unscanned (λ b. (refl, refl)) p
+act_placed words room le past listed (ScanArea a size) v s e ok p = where_placed room (world past) (contains a) _ (λ b. (refl, refl)) p
+act_placed words room le past listed (File word) v s e ok p = written_placed room (world past) listed word p
+act_placed words room le past listed _ v s e ok p = p
 
-event_placed : (words : ℕ) (past : Past) (listed : List ℕ) (act : Act) (v : ℕ) (s : Answer) → s ≡ answer words past act v → PlacedIn words (world past)
-    → PlacedIn words (world_after_event (world past) listed act s)
-event_placed words past listed act v s e p =
-    elim (is_refused s) as (λ q. is_refused s ≡ q → PlacedIn words (if q then world past else world_after_act (world past) listed act s)) [
+event_placed : (words room : ℕ) → words ≤ room → (past : Past) (listed : List ℕ) (act : Act) (v : ℕ) (s : Answer) → s ≡ answer words past act v → PlacedIn room (world past)
+    → PlacedIn room (world_after_event (world past) listed act s)
+event_placed words room le past listed act v s e p =
+    elim (is_refused s) as (λ q. is_refused s ≡ q → PlacedIn room (if q then world past else world_after_act (world past) listed act s)) [
       | true ↦ λ r. p
-      | false ↦ λ r. act_placed words past listed act v s e r p
+      | false ↦ λ r. act_placed words room le past listed act v s e r p
     ] refl
 
 opening_placed : (words : ℕ) → 512 ≤ words → PlacedIn words opening
 opening_placed words le =
     let table : Allocation = record { «use» = SlotTable; start = base; size = 4096 } in
     record {
-      sound = ((omega arith, (omega arith, omega (arith, le)), (λ e. absurd cc)), tt);
+      sound = ((omega arith, (omega arith, omega (arith, le)), (λ e. absurd cc), ((0, refl), (511, refl))), tt);
       pages = (tt, tt);
-      blocks_in = ((table, inl refl, refl, omega arith, omega arith, inl refl), tt);
+      blocks_in = ((table, inl refl, refl, omega arith, omega arith, inl refl, ((0, refl), (511, refl))), tt);
       blocks_apart = (tt, tt);
       stacks_in = tt;
       stacks_apart = tt;
     }
 
--- at each moment of a history that follows, what stands is placed
+-- at each moment of a history whose events have their answers, what stands is placed, in any memory with room for its first page
+pub answered_placed : (words room : ℕ) → words ≤ room → 512 ≤ room → (h : History) → IsAnswered words h → PlacedIn room (world (past_of h))
+answered_placed words room le most [] f = opening_placed room most
+answered_placed words room le most (e ∷ h) f =
+    event_placed words room le (past_of h) (listing_ids (past_of h)) e.act f.0.0 e.answer f.0.1 (answered_placed words room le most h f.1)
+
+-- and so of a history that follows
 pub history_placed : (words : ℕ) (h : History) → 512 ≤ words → Follows words h → PlacedIn words (world (past_of h))
-history_placed words [] le f = opening_placed words le
-history_placed words (e ∷ h) le f = event_placed words (past_of h) (listing_ids (past_of h)) e.act (value_of e.answer) e.answer f.0 (history_placed words h le f.2)
+history_placed words h le f = answered_placed words words (omega arith) le h (follows_answered words h f)

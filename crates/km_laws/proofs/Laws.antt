@@ -10,7 +10,7 @@ use Rattle.km_model.specs.Scan.{next, scan_load, first_queue, second_queue}
 use Rattle.km_model.specs.Changes.{world_after_act}
 use Rattle.km_model.specs.Follows.{moment, past_of}
 use Rattle.km_laws.specs.Left.{left, left_of}
-use Rattle.km_laws.specs.Placed.{AllocationsApart, InMemory}
+use Rattle.km_laws.specs.Placed.{AllocationsApart, InMemory, WholeWords}
 use Rattle.km_laws.specs.Laws.{AllIsPlaced, NamesRise, goes_on, LoadsLower, NothingRaises, LeftIsBounded}
 use Rattle.km_laws.proofs.Lists.{Each, Pairs, in_each, each_weaker, each_both, Rising, rising_in}
 use Rattle.km_laws.proofs.Pages.{Sound, PagesApart, never_meet}
@@ -31,7 +31,7 @@ pub all_is_placed : AllIsPlaced
 all_is_placed words h size f =
     let p = history_placed words h size.0 f in
     record {
-      allocations = each_weaker (Sound words) (λ (x : Allocation). (0 < x.size) × InMemory words x.start x.size) (λ x s. (s.0, s.1)) (world (past_of h)).used p.sound;
+      allocations = each_weaker (Sound words) (λ (x : Allocation). (0 < x.size) × InMemory words x.start x.size × WholeWords x.start x.size) (λ x s. (s.0, s.1, s.3)) (world (past_of h)).used p.sound;
       allocations_apart = apart_of words (world (past_of h)).used p.sound p.pages;
       blocks = p.blocks_in;
       blocks_apart = p.blocks_apart;

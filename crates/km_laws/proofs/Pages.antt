@@ -3,7 +3,7 @@ use Rattle.std.specs.List.{list_any}
 use Rattle.std.proofs.lemmas.Bool.{cases_lt, cases_order, and_parts, and_from, and_right, not-true, not_from_false, both_ways}
 use Rattle.km_model.specs.Memory.{base}
 use Rattle.km_model.specs.Placement.{Allocation, page_start, page_of, least_from, touches, is_free_page, are_free_pages, page_behind, lowest_run, run_place, is_slab_block}
-use Rattle.km_laws.specs.Placed.{Apart, AllocationsApart, InMemory}
+use Rattle.km_laws.specs.Placed.{Apart, AllocationsApart, InMemory, Words, WholeWords}
 use Rattle.km_laws.proofs.Lists.{Each, In, none_in, each_none}
 
 -- a search up to a number that passes finds one that does
@@ -74,9 +74,9 @@ run_is words used n a h =
 abbrev pub SlotIn : ℕ → Allocation → Type 0
 SlotIn words x = (p : ℕ) × (i : ℕ) × (x.start ≡ page_start p + x.size * i) × (x.size * suc i ≤ 4096) × (page_start (p + 1) ≤ base + 8 * words)
 
--- an allocation has bytes, which lie in the memory, and a slab block is a slot of a page
+-- an allocation is whole words of the memory, and a slab block is a slot of a page
 abbrev pub Sound : ℕ → Allocation → Type 0
-Sound words x = (0 < x.size) × InMemory words x.start x.size × (is_slab_block x ≡ true → SlotIn words x)
+Sound words x = (0 < x.size) × InMemory words x.start x.size × (is_slab_block x ≡ true → SlotIn words x) × WholeWords x.start x.size
 
 -- two allocations touch no page both, or are two slots of one page
 abbrev pub PagesApart : Allocation → Allocation → Type 0
@@ -184,16 +184,24 @@ run_inside b p n words le = omega (arith, le)
 run_pages : (b p q n size : ℕ) → size ≤ 4096 * n → b + 4096 * p < b + 4096 * (q + 1) → b + 4096 * q < b + 4096 * p + size → (p ≤ q) × (q < p + n)
 run_pages b p q n size le x y = (omega (arith, x), omega (arith, le, y))
 
+pub words_some : (size : ℕ) → Words size → 0 < size
+words_some size w = let k = w.1 in omega (arith, k)
+
+page_word : (b p : ℕ) → b + 4096 * p ≡ b + 8 * (512 * p)
+page_word b p = omega arith
+
 -- the lowest run is free, and so is each allocation at its start that isn't longer
 pub run_is_free : (words : ℕ) (used : List Allocation) (n : ℕ) (z : Allocation) → lowest_run used n + n ≤ words / 512 → z.start ≡ page_start (lowest_run used n)
-    → 0 < z.size → z.size ≤ 4096 * n → (is_slab_block z ≡ true → z.size ≤ 4096) → Free words used z
-run_is_free words used n z room start some size slab =
+    → Words z.size → z.size ≤ 4096 * n → (is_slab_block z ≡ true → z.size ≤ 4096) → Free words used z
+run_is_free words used n z room start whole size slab =
+    let some = words_some z.size whole in
     let p = lowest_run used n in
     let inside = run_inside base (lowest_run used n) n words room in
     free_in words used z (
       some,
       (omega (arith, start), omega (arith, start, inside, size)),
       (λ e. let k = slab e in (lowest_run used n, 0, omega (arith, start), omega (arith, k), (let one : 0 < n = omega (arith, size, some) in omega (arith, room, one)))),
+      ((512 * lowest_run used n, start ∙ page_word base (lowest_run used n)), whole),
     )
     (λ x i. inl (λ q tx tz.
     let t = touched q z tz in

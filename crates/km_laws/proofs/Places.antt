@@ -1,4 +1,4 @@
-use Rattle.std.proofs.Common.{◌≡◌, ℕ, zero, suc, ◌+◌, ◌*◌, ◌/◌, ◌<◌, ◌≤◌, Bool, true, false, ◌==◌, nat_lt, nat_le, eqb, find, filter, List, [], ◌∷◌, Option, Some, None, if◌then◌else◌, refl, sym, subst, arith, ◌⊎◌, inl, inr, eqb-true, ltb-true, leb-true}
+use Rattle.std.proofs.Common.{◌≡◌, ℕ, zero, suc, ◌+◌, ◌*◌, ◌/◌, ◌<◌, ◌≤◌, max, Bool, true, false, ◌==◌, nat_lt, nat_le, eqb, find, filter, List, [], ◌∷◌, Option, Some, None, if◌then◌else◌, refl, sym, subst, arith, ◌⊎◌, inl, inr, eqb-true, ltb-true, leb-true}
 use Rattle.std.proofs.lemmas.Bool.{eqb-false}
 use Rattle.km_model.specs.Memory.{words_from}
 use Rattle.km_model.specs.Blocks.{Block, is_scanned, scanned_words, words_of, block_of}
@@ -11,7 +11,7 @@ use Rattle.km_laws.proofs.Lists.{Each, each_weaker, each_in, In, find_in, filter
 abbrev pub Word : ℕ → ℕ → ℕ → Type 0
 Word n start a = (i : ℕ) × (i < n) × (a ≡ start + 8 * i)
 
-words_each : (n s : ℕ) → Each (Word n s) (words_from n s)
+pub words_each : (n s : ℕ) → Each (Word n s) (words_from n s)
 words_each zero s = tt
 words_each (suc n) s = (
   (0, omega arith, omega arith),
@@ -47,7 +47,7 @@ live_word_in blocks id a i = live_word_of blocks id a (block_of blocks id) (bloc
 
 -- a live white block with a word, or with its start
 abbrev pub WhiteWord : Past → ℕ → ℕ → Type 0
-WhiteWord past id a = (b : Block) × In b (world past).blocks × (b.id ≡ id) × Word (suc (b.size / 8)) b.start a × (is_white past b ≡ true)
+WhiteWord past id a = (b : Block) × In b (world past).blocks × (b.id ≡ id) × Word (max 1 (b.size / 8)) b.start a × (is_white past b ≡ true)
 
 white_some : (past : Past) (id a : ℕ) (b : Block) → In b (world past).blocks × (b.id ≡ id) → In a (if is_white past b then words_of b else []) → WhiteWord past id a
 white_some past id a b g i =
@@ -74,32 +74,43 @@ stack_word_of : (tasks : List Task) (n a : ℕ) (o : Option Task) → ((t : Task
 stack_word_of tasks n a None f i = absurd i
 stack_word_of tasks n a (Some t) f i = let g = f t refl in (t, g.0, g.1, word_in 512 t.stack a i)
 
-stack_word_in : (tasks : List Task) (n a : ℕ) → In a (stack_of tasks n) → StackWord tasks n a
+pub stack_word_in : (tasks : List Task) (n a : ℕ) → In a (stack_of tasks n) → StackWord tasks n a
 stack_word_in tasks n a i =
     stack_word_of tasks n a (find (λ (t : Task). t.number == n) tasks)
     (λ t h. let f = find_in (λ (t : Task). t.number == n) tasks t h in (f.1, eqb-true t.number n f.0)) i
 
-either_place : (o p : Option Place) (place : Place) → or_else o p ≡ Some place → (o ≡ Some place) ⊎ (p ≡ Some place)
-either_place None p place h = inr h
-either_place (Some x) p place h = inl h
+pub none_place : (p : Place) → None ≡ Some p → ⊥
+none_place p e = cc
+
+pub or_else_some : (x y : Option Place) (p : Place) → or_else x y ≡ Some p → (x ≡ Some p) ⊎ ((x ≡ None) × (y ≡ Some p))
+or_else_some None y p e = inr (refl, e)
+or_else_some (Some x) y p e = inl e
+
+pub or_else_none : (x y : Option Place) → or_else x y ≡ None → (x ≡ None) × (y ≡ None)
+or_else_none None y e = (refl, e)
+or_else_none (Some x) y e = absurd (none_place x (sym e))
 
 -- a place in a phase, of a holder, with a word
-abbrev PlaceIn : ℕ → ℕ → Option ℕ → Place → Type 0
+abbrev pub PlaceIn : ℕ → ℕ → Option ℕ → Place → Type 0
 PlaceIn phase holder o place = (place.phase ≡ phase) × (place.holder ≡ holder) × (o ≡ Some place.word)
 
-place_in_is : (phase holder : ℕ) (o : Option ℕ) (place : Place) → place_in phase holder o ≡ Some place → PlaceIn phase holder o place
+pub place_in_is : (phase holder : ℕ) (o : Option ℕ) (place : Place) → place_in phase holder o ≡ Some place → PlaceIn phase holder o place
 place_in_is phase holder None place h = cc
 place_in_is phase holder (Some a) place h =
     let same : (record { phase = phase; holder = holder; word = a }) ≡ place = cc in
     subst (λ (q : Place). PlaceIn phase holder (Some a) q) same (refl, refl, refl)
 
-not_over : (p present : ℕ) (o : Option Place) (place : Place) → unless_over p present o ≡ Some place → (present ≤ p) × (o ≡ Some place)
+pub not_over : (p present : ℕ) (o : Option Place) (place : Place) → unless_over p present o ≡ Some place → (present ≤ p) × (o ≡ Some place)
 not_over p present o place h =
     let P = λ (q : Bool). nat_le present p ≡ q → (if q then o else None) ≡ Some place → (present ≤ p) × (o ≡ Some place) in
     elim (nat_le present p) as P [
       | true ↦ λ e i. (leb-true present p e, i)
       | false ↦ λ e i. cc
     ] refl h
+
+pub place_in_none : (phase holder : ℕ) (o : Option ℕ) → place_in phase holder o ≡ None → o ≡ None
+place_in_none phase holder None e = refl
+place_in_none phase holder (Some a) e = absurd (none_place _ (sym e))
 
 -- a grey phase: the word of a live block, of the last holder behind the last word, or of a holder behind it in the queue
 abbrev pub GreyFrom : ℕ → List ℕ → Option ScanLoad → Place → Type 0
@@ -117,11 +128,11 @@ FirstIn phase blocks queue place = (place.phase ≡ phase) × BlockWord blocks p
 first_in_is : (phase : ℕ) (blocks : List Block) (queue : List ℕ) (place : Place) → first_in phase blocks queue ≡ Some place → FirstIn phase blocks queue place
 first_in_is phase blocks [] place h = cc
 first_in_is phase blocks (id ∷ queue) place h =
-    elim (either_place (place_in phase id (first_word (live_words blocks id))) (first_in phase blocks queue) place h) [
+    elim (or_else_some (place_in phase id (first_word (live_words blocks id))) (first_in phase blocks queue) place h) [
       | inl here ↦
           let p = place_in_is phase id (first_word (live_words blocks id)) place here in
           (p.0, subst (λ n. BlockWord blocks n place.word) (sym p.1) (live_word_in blocks id place.word (first_word_in place.word (live_words blocks id) p.2)), inl p.1)
-      | inr later ↦ let f = first_in_is phase blocks queue place later in (f.0, f.1, inr f.2)
+      | inr later ↦ let f = first_in_is phase blocks queue place later.1 in (f.0, f.1, inr f.2)
     ]
 
 grey_some : (phase : ℕ) (past : Past) (queue : List ℕ) (l : ScanLoad) (place : Place) → grey_next phase past queue (Some l) ≡ Some place
@@ -133,19 +144,19 @@ grey_some phase past queue l place h =
     (first_in phase (world past).blocks (behind l.place.holder queue))
     else first_in phase (world past).blocks queue) ≡ Some place → GreyPlace phase (world past).blocks queue (Some l) place in
     elim (eqb l.place.phase phase) as P [
-      | true ↦ λ e i. elim (either_place (place_in phase l.place.holder (word_above l.place.word (live_words (world past).blocks l.place.holder))) (first_in phase (world past).blocks (behind l.place.holder queue)) place i) [
+      | true ↦ λ e i. elim (or_else_some (place_in phase l.place.holder (word_above l.place.word (live_words (world past).blocks l.place.holder))) (first_in phase (world past).blocks (behind l.place.holder queue)) place i) [
         | inl same ↦
             let p = place_in_is phase l.place.holder (word_above l.place.word (live_words (world past).blocks l.place.holder)) place same in
             let w = word_above_in l.place.word place.word (live_words (world past).blocks l.place.holder) p.2 in
             (p.0, subst (λ n. BlockWord (world past).blocks n place.word) (sym p.1) (live_word_in (world past).blocks l.place.holder place.word w.1), inl (eqb-true l.place.phase phase e, inl (p.1, w.0)))
         | inr behind' ↦
-            let f = first_in_is phase (world past).blocks (behind l.place.holder queue) place behind' in
+            let f = first_in_is phase (world past).blocks (behind l.place.holder queue) place behind'.1 in
             (f.0, f.1, inl (eqb-true l.place.phase phase e, inr f.2))
       ]
       | false ↦ λ e i. let f = first_in_is phase (world past).blocks queue place i in (f.0, f.1, inr (eqb-false l.place.phase phase e, f.2))
     ] refl h
 
-grey_is : (phase : ℕ) (past : Past) (queue : List ℕ) (last : Option ScanLoad) (place : Place) → grey_next phase past queue last ≡ Some place
+pub grey_is : (phase : ℕ) (past : Past) (queue : List ℕ) (last : Option ScanLoad) (place : Place) → grey_next phase past queue last ≡ Some place
     → GreyPlace phase (world past).blocks queue last place
 grey_is phase past queue None place h = first_in_is phase (world past).blocks queue place h
 grey_is phase past queue (Some l) place h = grey_some phase past queue l place h
@@ -164,17 +175,17 @@ first_stack_is (t ∷ ts) place h =
     let same : (record { phase = 1; holder = t.number; word = t.stack }) ≡ place = cc in
     subst (λ (q : Place). (q.phase ≡ 1) × StackWord (t ∷ ts) q.holder q.word) same (refl, (t, inl refl, refl, (0, omega arith, omega arith)))
 
-stack_is : (past : Past) (last : Option ScanLoad) (place : Place) → stack_next past last ≡ Some place → StackPlace (world past).tasks last place
+pub stack_is : (past : Past) (last : Option ScanLoad) (place : Place) → stack_next past last ≡ Some place → StackPlace (world past).tasks last place
 stack_is past None place h = let f = first_stack_is (world past).tasks place h in (f.0, f.1, tt)
 stack_is past (Some l) place h =
     let later = filter (λ (t : Task). nat_lt l.place.holder t.number) (world past).tasks in
-    elim (either_place (place_in 1 l.place.holder (word_above l.place.word (stack_of (world past).tasks l.place.holder))) (first_stack later) place h) [
+    elim (or_else_some (place_in 1 l.place.holder (word_above l.place.word (stack_of (world past).tasks l.place.holder))) (first_stack later) place h) [
       | inl same ↦
           let p = place_in_is 1 l.place.holder (word_above l.place.word (stack_of (world past).tasks l.place.holder)) place same in
           let w = word_above_in l.place.word place.word (stack_of (world past).tasks l.place.holder) p.2 in
           (p.0, subst (λ n. StackWord (world past).tasks n place.word) (sym p.1) (stack_word_in (world past).tasks l.place.holder place.word w.1), inl (p.1, w.0))
       | inr next' ↦
-          let f = first_stack_is later place next' in
+          let f = first_stack_is later place next'.1 in
           let t = f.1.0 in
           let m = filter_in (λ (t : Task). nat_lt l.place.holder t.number) (world past).tasks t f.1.1 in
           (f.0, (t, m.1, f.1.2, f.1.3), inr (subst (λ n. l.place.holder < n) f.1.2 (ltb-true l.place.holder t.number m.0)))
@@ -225,17 +236,17 @@ sum_some past l place h =
     (first_white past (filter (λ (b : Block). nat_lt l.place.holder b.id) (world past).blocks))
     else first_white past (world past).blocks) ≡ Some place → SumPlace past (Some l) place in
     elim (eqb l.place.phase 3) as P [
-      | true ↦ λ e i. elim (either_place (place_in 3 l.place.holder (word_above l.place.word (white_words past l.place.holder))) (first_white past (filter (λ (b : Block). nat_lt l.place.holder b.id) (world past).blocks)) place i) [
+      | true ↦ λ e i. elim (or_else_some (place_in 3 l.place.holder (word_above l.place.word (white_words past l.place.holder))) (first_white past (filter (λ (b : Block). nat_lt l.place.holder b.id) (world past).blocks)) place i) [
         | inl same ↦
             let p = place_in_is 3 l.place.holder (word_above l.place.word (white_words past l.place.holder)) place same in
             let w = word_above_in l.place.word place.word (white_words past l.place.holder) p.2 in
             (p.0, subst (λ n. WhiteWord past n place.word) (sym p.1) (white_word_in past l.place.holder place.word w.1), inl (eqb-true l.place.phase 3 e, inl (p.1, w.0)))
-        | inr later ↦ let f = later_white_is past l.place.holder place later in (f.0, f.1, inl (eqb-true l.place.phase 3 e, inr f.2))
+        | inr later ↦ let f = later_white_is past l.place.holder place later.1 in (f.0, f.1, inl (eqb-true l.place.phase 3 e, inr f.2))
       ]
       | false ↦ λ e i. let f = first_white_is past place i in (f.0, f.1, inr (eqb-false l.place.phase 3 e))
     ] refl h
 
-sum_is : (past : Past) (last : Option ScanLoad) (place : Place) → sum_next past last ≡ Some place → SumPlace past last place
+pub sum_is : (past : Past) (last : Option ScanLoad) (place : Place) → sum_next past last ≡ Some place → SumPlace past last place
 sum_is past None place h = let f = first_white_is past place h in (f.0, f.1, tt)
 sum_is past (Some l) place h = sum_some past l place h
 
@@ -247,8 +258,8 @@ NextPlace past last place =
     ⊎ (((phase_of last ≤ 3) × SumPlace past last place)
     ⊎ GreyPlace 4 (world past).blocks (second_queue past) last place))
 
-if_place : (q : Bool) (o : Option Place) (place : Place) → (if q then o else None) ≡ Some place → o ≡ Some place
-if_place true o place h = h
+pub if_place : (q : Bool) (o : Option Place) (place : Place) → (if q then o else None) ≡ Some place → (q ≡ true) × (o ≡ Some place)
+if_place true o place h = (refl, h)
 if_place false o place h = cc
 
 after_is : (past : Past) (last : Option ScanLoad) (place : Place) → next_after past last ≡ Some place → NextPlace past last place
@@ -257,13 +268,13 @@ after_is past last place h =
     let b : Option Place = unless_over 2 (phase_of last) (grey_next 2 past (first_queue past) last) in
     let c : Option Place = unless_over 3 (phase_of last) (sum_next past last) in
     let d : Option Place = grey_next 4 past (second_queue past) last in
-    elim (either_place a (or_else b (or_else c d)) place h) [
-      | inl one ↦ let n = not_over 1 (phase_of last) (if (world past).stacks then stack_next past last else None) place one in inl (n.0, stack_is past last place (if_place (world past).stacks (stack_next past last) place n.1))
-      | inr more ↦ elim (either_place b (or_else c d) place more) [
+    elim (or_else_some a (or_else b (or_else c d)) place h) [
+      | inl one ↦ let n = not_over 1 (phase_of last) (if (world past).stacks then stack_next past last else None) place one in inl (n.0, stack_is past last place (if_place (world past).stacks (stack_next past last) place n.1).1)
+      | inr more ↦ elim (or_else_some b (or_else c d) place more.1) [
         | inl two ↦ let n = not_over 2 (phase_of last) (grey_next 2 past (first_queue past) last) place two in inr (inl (n.0, grey_is 2 past (first_queue past) last place n.1))
-        | inr rest ↦ elim (either_place c d place rest) [
+        | inr rest ↦ elim (or_else_some c d place rest.1) [
           | inl three ↦ let n = not_over 3 (phase_of last) (sum_next past last) place three in inr (inr (inl (n.0, sum_is past last place n.1)))
-          | inr four ↦ inr (inr (inr (grey_is 4 past (second_queue past) last place four)))
+          | inr four ↦ inr (inr (inr (grey_is 4 past (second_queue past) last place four.1)))
         ]
       ]
     ]

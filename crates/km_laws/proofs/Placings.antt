@@ -1,9 +1,9 @@
-use Rattle.std.proofs.Common.{◌≡◌, ℕ, ◌+◌, ◌<◌, ◌≤◌, Bool, true, not, ◌==◌, filter, map, List, [], ◌∷◌, ◌++◌, sym, ◌∙◌, arith, ◌⊎◌, inl, inr, ne_eqb}
-use Rattle.std.proofs.lemmas.Bool.{not_from_false}
-use Rattle.km_model.specs.Blocks.{Block}
+use Rattle.std.proofs.Common.{◌≡◌, ℕ, ◌+◌, ◌<◌, ◌≤◌, Bool, true, not, ◌==◌, nat_le, nat_lt, leb-true, ltb-true, filter, map, List, [], ◌∷◌, ◌++◌, sym, ◌∙◌, subst, arith, ◌⊎◌, inl, inr, ne_eqb}
+use Rattle.std.proofs.lemmas.Bool.{and_parts, not_from_false}
+use Rattle.km_model.specs.Blocks.{Block, is_within}
 use Rattle.km_model.specs.Placement.{Allocation, without_allocation}
 use Rattle.km_model.specs.Tasks.{Task}
-use Rattle.km_laws.specs.Placed.{Apart, AllocationsApart, BlocksApart, BlockPlaced, StackPlaced, is_stack, is_boot, is_tracked}
+use Rattle.km_laws.specs.Placed.{Apart, AllocationsApart, BlocksApart, Words, BlockPlaced, StackPlaced, is_stack, is_boot, is_tracked}
 use Rattle.km_laws.proofs.Lists.{Each, Pairs, In, each_in, in_each, each_weaker, each_push, each_filter, each_map, pairs_push, pairs_filter, pairs_map, pairs_in, in_push_left, in_push_right, in_filter}
 use Rattle.km_laws.proofs.Pages.{Sound, PagesApart, never_meet, Free}
 
@@ -28,6 +28,14 @@ apart_sym a size b other (inr h) = inl h
 pub apart_parts : (a size b other c part d piece : ℕ) → Apart a size b other → a ≤ c → c + part ≤ a + size → b ≤ d → d + piece ≤ b + other → Apart c part d piece
 apart_parts a size b other c part d piece (inl h) lo hi lo' hi' = inl (omega (arith, h, hi, lo'))
 apart_parts a size b other c part d piece (inr h) lo hi lo' hi' = inr (omega (arith, h, lo, hi'))
+
+in_span : (start size a : ℕ) → is_within start size a ≡ true → (start ≤ a) × (a < start + size)
+in_span start size a h = let p = and_parts (nat_le start a) (nat_lt a (start + size)) h in (leb-true start a p.0, ltb-true a (start + size) p.1)
+
+-- two spans that are apart have no byte in common
+pub no_byte : (start size other length' a : ℕ) → Apart start size other length' → is_within start size a ≡ true → is_within other length' a ≡ true → ⊥
+no_byte start size other length' a (inl k) h g = let p = in_span start size a h in let q = in_span other length' a g in let x = p.1 in let y = q.0 in omega (arith, k, x, y)
+no_byte start size other length' a (inr k) h g = let p = in_span start size a h in let q = in_span other length' a g in let x = p.0 in let y = q.1 in omega (arith, k, x, y)
 
 -- two live allocations are one, or never meet
 pub one_or_apart : (words : ℕ) (used : List Allocation) (bs : List Block) (ts : List Task) (x y : Allocation) → Placed words used bs ts → In x used → In y used → (x ≡ y) ⊎ AllocationsApart x y
@@ -57,8 +65,17 @@ one_at words used bs ts x y p i j e =
     let sy = (each_in (Sound words) used y p.sound j).0 in
     one_with words used bs ts x y x.start p i j (omega arith) (omega (arith, sx)) (omega (arith, e)) (omega (arith, e, sy))
 
+-- a byte is in one block alone
+pub one_block : (words : ℕ) (used : List Allocation) (bs : List Block) (ts : List Task) (b c : Block) (a : ℕ) → Placed words used bs ts → In b bs → In c bs
+    → is_within b.start b.size a ≡ true → is_within c.start c.size a ≡ true → b ≡ c
+one_block words used bs ts b c a p i j e f =
+    elim (pairs_in BlocksApart bs b c p.blocks_apart i j) [
+      | inl same ↦ same
+      | inr other ↦ absurd (elim other [ inl k ↦ no_byte b.start b.size c.start c.size a k e f | inr k ↦ no_byte c.start c.size b.start b.size a k f e ])
+    ]
+
 block_more : (used : List Allocation) (z : Allocation) (b : Block) → BlockPlaced used b → BlockPlaced (used ++ z ∷ []) b
-block_more used z b h = (h.0, in_push_left used h.0 z h.1, h.2, h.3, h.4, h.5)
+block_more used z b h = (h.0, in_push_left used h.0 z h.1, h.2, h.3, h.4, h.5, h.6)
 
 stack_more : (used : List Allocation) (z : Allocation) (t : Task) → StackPlaced used t → StackPlaced (used ++ z ∷ []) t
 stack_more used z t h = (h.0, in_push_left used h.0 z h.1, h.2, h.3, h.4)
@@ -99,11 +116,11 @@ clear_of words used bs ts z b free start size p =
     h.3 h.4 (omega (arith, start)) (omega (arith, start, size))) bs p.blocks_in
 
 -- an allocation is made, with a block at its start
-pub block_allocated : (words : ℕ) (used : List Allocation) (bs : List Block) (ts : List Task) (z : Allocation) (b : Block) → Free words used z → is_tracked z ≡ true → b.start ≡ z.start → b.size ≤ z.size
+pub block_allocated : (words : ℕ) (used : List Allocation) (bs : List Block) (ts : List Task) (z : Allocation) (b : Block) → Free words used z → is_tracked z ≡ true → b.start ≡ z.start → b.size ≤ z.size → Words b.size
     → Placed words used bs ts → Placed words (used ++ z ∷ []) (bs ++ b ∷ []) ts
-block_allocated words used bs ts z b free tracked start size p =
+block_allocated words used bs ts z b free tracked start size whole p =
     block_added words (used ++ z ∷ []) bs ts b
-    (z, in_push_right used z, tracked, omega (arith, start), omega (arith, start, size), inl start)
+    (z, in_push_right used z, tracked, omega (arith, start), omega (arith, start, size), inl start, ((free.0.3.0.0, start ∙ free.0.3.0.1), whole))
     (clear_of words used bs ts z b free start size p)
     (allocated words used bs ts z free p)
 
@@ -158,7 +175,7 @@ tasks_fewer words used bs ts test p = record {
 
 block_same : (used : List Allocation) (b c : Block) → c.start ≡ b.start → c.size ≡ b.size → BlockPlaced used b → BlockPlaced used c
 block_same used b c e f h =
-    (h.0, h.1, h.2, (let k = h.3 in omega (arith, e, k)), (let k = h.4 in omega (arith, e, f, k)), elim h.5 [ inl s ↦ inl (e ∙ s) | inr boot ↦ inr boot ])
+    (h.0, h.1, h.2, (let k = h.3 in omega (arith, e, k)), (let k = h.4 in omega (arith, e, f, k)), elim h.5 [ inl s ↦ inl (e ∙ s) | inr boot ↦ inr boot ], ((h.6.0.0, e ∙ h.6.0.1), subst Words (sym f) h.6.1))
 
 apart_same : (a b c d : Block) → c.start ≡ a.start → c.size ≡ a.size → d.start ≡ b.start → d.size ≡ b.size → BlocksApart a b → BlocksApart c d
 apart_same a b c d e f g h (inl k) = inl (omega (arith, e, f, g, h, k))
@@ -199,7 +216,7 @@ given_back words used bs ts a no_block no_stack p = record {
   pages = pairs_filter PagesApart (λ (x : Allocation). not (x.start == a)) used p.pages;
   blocks_in = in_each (BlockPlaced (without_allocation used a)) bs (λ b i.
       let h = each_in (BlockPlaced used) bs b p.blocks_in i in
-      (h.0, kept_in used a h.0 h.1 (λ e. no_block b h.0 i h.1 e h.2 h.5), h.2, h.3, h.4, h.5));
+      (h.0, kept_in used a h.0 h.1 (λ e. no_block b h.0 i h.1 e h.2 h.5), h.2, h.3, h.4, h.5, h.6));
   blocks_apart = p.blocks_apart;
   stacks_in = in_each (StackPlaced (without_allocation used a)) ts (λ t i.
       let h = each_in (StackPlaced used) ts t p.stacks_in i in

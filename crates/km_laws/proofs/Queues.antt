@@ -1,7 +1,7 @@
-use Rattle.std.proofs.Common.{◌≡◌, ℕ, Bool, true, false, cond, eqb, List, [], ◌∷◌, ◌++◌, refl, sym, subst, ◌⊎◌, inl, inr, eqb-true}
+use Rattle.std.proofs.Common.{◌≡◌, ℕ, Bool, true, false, cond, eqb, List, [], ◌∷◌, ◌++◌, ◌==◌, refl, sym, subst, ◌⊎◌, inl, inr, eqb-true, eq-eqb}
 use Rattle.std.proofs.lemmas.Bool.{eqb-false}
 use Rattle.km_model.specs.Scan.{behind}
-use Rattle.km_laws.proofs.Lists.{In, in_push_cases}
+use Rattle.km_laws.proofs.Lists.{In, in_push_cases, in_append_left, in_append_right}
 pub use Rattle.km_laws.specs.Moves.{Distinct}
 
 -- either the first is the one, or what stands behind it is in the rest
@@ -54,3 +54,35 @@ pub distinct_push : (ns : List ℕ) (r : ℕ) → Distinct ns → (In r ns → �
 distinct_push [] r d f = (λ i. i, tt)
 distinct_push (m ∷ ms) r d f =
     ((λ i. elim (in_push_cases ms m r i) [ inl j ↦ d.0 j | inr same ↦ f (inl (sym same)) ]), distinct_push ms r d.1 (λ i. f (inr i)))
+
+-- what is behind x in what is behind h is behind x in the whole
+pub behind_behind : (q : List ℕ) (h x id : ℕ) → In id (behind x (behind h q)) → In id (behind x q)
+behind_behind [] h x id i = absurd i
+behind_behind (y ∷ q) h x id i =
+    elim (y == x) as (λ r. In id (cond r q (behind x q))) [
+      | true ↦ elim (y == h) as (λ s. In id (behind x (cond s q (behind h q))) → In id q) [
+        | true ↦ λ j. in_behind x id q j
+        | false ↦ λ j. in_behind h id q (in_behind x id (behind h q) j)
+      ] i
+      | false ↦ elim (y == h) as (λ s. In id (behind x (cond s q (behind h q))) → In id (behind x q)) [
+        | true ↦ λ j. j
+        | false ↦ λ j. behind_behind q h x id j
+      ] i
+    ]
+
+-- a queue grows at its end
+pub behind_grows : (q more : List ℕ) (h id : ℕ) → In id (behind h q) → In id (behind h (q ++ more))
+behind_grows [] more h id i = absurd i
+behind_grows (y ∷ q) more h id i =
+    elim (y == h) as (λ r. In id (cond r q (behind h q)) → In id (cond r (q ++ more) (behind h (q ++ more)))) [
+      | true ↦ λ j. in_append_left q more id j
+      | false ↦ λ j. behind_grows q more h id j
+    ] i
+
+pub behind_end : (q more : List ℕ) (h id : ℕ) → In h q → In id more → In id (behind h (q ++ more))
+behind_end [] more h id i j = absurd i
+behind_end (y ∷ q) more h id i j =
+    elim (y == h) as (λ r. y == h ≡ r → In id (cond r (q ++ more) (behind h (q ++ more)))) [
+      | true ↦ λ _. in_append_right q more id j
+      | false ↦ λ e. elim i [ inl same ↦ absurd (let f : (y == h) ≡ true = eq-eqb y h (sym same) in cc) | inr k ↦ behind_end q more h id k j ]
+    ] refl

@@ -1,5 +1,5 @@
-use Rattle.std.proofs.Common.{◌≡◌, ℕ, zero, suc, ◌+◌, ◌-◌, ◌*◌, ◌/◌, ◌<◌, ◌≤◌, min, Bool, true, false, ◌&&◌, ◌||◌, nat_le, nat_lt, length, List, [], ◌∷◌, ◌++◌, if◌then◌else◌, refl, sym, ap, ◌∙◌, subst, arith, inl, inr, ltb-true, leb-true}
-use Rattle.std.proofs.lemmas.Bool.{and_parts, or_cases, ltb-false, leb-false}
+use Rattle.std.proofs.Common.{◌≡◌, ℕ, zero, suc, ◌+◌, ◌-◌, ◌*◌, ◌/◌, ◌≤◌, min, Bool, true, false, ◌&&◌, ◌||◌, nat_le, nat_lt, length, List, [], ◌∷◌, ◌++◌, if◌then◌else◌, refl, sym, ap, ◌∙◌, subst, arith, inl, inr, ltb-true, leb-true}
+use Rattle.std.proofs.lemmas.Bool.{or_cases, ltb-false, leb-false}
 use Rattle.km_model.specs.History.{History}
 use Rattle.km_model.specs.Memory.{base}
 use Rattle.km_model.specs.Blocks.{Block, is_within}
@@ -11,7 +11,7 @@ use Rattle.km_laws.specs.Left.{made, block_left, task_left, left, total}
 use Rattle.km_laws.specs.Placed.{Apart, BlockPlaced, StackPlaced, is_stack}
 use Rattle.km_laws.proofs.Lists.{Each, Pairs, In, each_in, in_each}
 use Rattle.km_laws.proofs.Pages.{Sound}
-use Rattle.km_laws.proofs.Placings.{Placed, StacksApart, one_or_apart, apart_parts}
+use Rattle.km_laws.proofs.Placings.{Placed, StacksApart, one_or_apart, apart_parts, no_byte}
 use Rattle.km_laws.proofs.Apart.{history_placed, stack_kind}
 use Rattle.km_laws.proofs.Falls.{remaining_less}
 use Rattle.km_laws.proofs.Ends.{loads_end}
@@ -61,14 +61,6 @@ cover_span start size (suc n) low le =
 
 whole_span : (start size n low : ℕ) → low ≤ start → start + size ≤ low + n → cover (is_within start size) n low ≡ size
 whole_span start size n low le end = let k = cover_span start size n low le in omega (arith, k, le, end)
-
-in_span : (start size a : ℕ) → is_within start size a ≡ true → (start ≤ a) × (a < start + size)
-in_span start size a h = let p = and_parts (nat_le start a) (nat_lt a (start + size)) h in (leb-true start a p.0, ltb-true a (start + size) p.1)
-
--- two spans that are apart have no byte in common
-no_byte : (start size other length' a : ℕ) → Apart start size other length' → is_within start size a ≡ true → is_within other length' a ≡ true → ⊥
-no_byte start size other length' a (inl k) h g = let p = in_span start size a h in let q = in_span other length' a g in let x = p.1 in let y = q.0 in omega (arith, k, x, y)
-no_byte start size other length' a (inr k) h g = let p = in_span start size a h in let q = in_span other length' a g in let x = p.0 in let y = q.1 in omega (arith, k, x, y)
 
 -- whether a byte is in one of these
 abbrev hit : {X : Type 0} → (X → ℕ) → (X → ℕ) → List X → ℕ → Bool

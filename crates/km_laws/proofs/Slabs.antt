@@ -1,9 +1,10 @@
-use Rattle.std.proofs.Common.{◌≡◌, ℕ, zero, suc, ◌+◌, ◌*◌, ◌/◌, ◌<◌, ◌≤◌, Bool, true, false, not, ◌&&◌, ◌==◌, nat_le, find, List, Option, Some, None, unwrap_or, if◌then◌else◌, refl, sym, ◌∙◌, subst, arith, inl, inr, eqb-true, eq-eqb, mul-le-mul_left, div-mul-le_self}
+use Rattle.std.proofs.Common.{◌≡◌, ℕ, zero, suc, ◌+◌, ◌-◌, ◌*◌, ◌/◌, ◌<◌, ◌≤◌, Bool, true, false, not, ◌&&◌, ◌==◌, nat_le, find, List, Option, Some, None, unwrap_or, if◌then◌else◌, refl, sym, ◌∙◌, subst, arith, inl, inr, eqb-true, eq-eqb, mul-le-mul_left, div-mul-le_self}
 use Rattle.std.proofs.lemmas.Bool.{and_parts, not-true, both_ways}
 use Rattle.km_model.specs.Memory.{base}
 use Rattle.km_model.specs.Placement.{Allocation, SlabBlock, LargeRun, page_start, page_of, pages_for, touches, lowest_run, run_place, classes, class_of, is_slab_block, is_slab_page, is_taken, slots_from, slot_in, slot_from, free_slot, slab_place, lowest_slab, page_behind, kmalloc_place, kmalloc_span, kmalloc_use}
+use Rattle.km_laws.specs.Placed.{Words}
 use Rattle.km_laws.proofs.Lists.{Each, Pairs, In, each_in, find_in, find_each, any_in, none_in, pairs_in}
-use Rattle.km_laws.proofs.Pages.{run_is, run_is_free, Sound, PagesApart, pages_sym, slot_start, own_page, slot_page, touched, free_in, Free}
+use Rattle.km_laws.proofs.Pages.{run_is, run_is_free, words_some, Sound, PagesApart, pages_sym, slot_start, own_page, slot_page, touched, free_in, Free}
 
 slot_some : (test : Bool) (o : Option ℕ) (a : ℕ) → (if test then o else None) ≡ Some a → (test ≡ true) × (o ≡ Some a)
 slot_some true o a h = (refl, h)
@@ -40,10 +41,15 @@ slot_inside b p k size m le inside = omega (arith, le, inside)
 slot_low : (b p k : ℕ) → b ≤ b + 4096 * p + k
 slot_low b p k = omega arith
 
+-- a slot begins at a word
+slot_word : (b p class i w : ℕ) → class ≡ 8 * suc w → b + 4096 * p + class * i ≡ b + 8 * (512 * p + suc w * i)
+slot_word b p class i w e = subst (λ c. b + 4096 * p + c * i ≡ b + 8 * (512 * p + suc w * i)) (sym e) (omega arith)
+
 -- a free slot of a page of slab blocks
-slot_is_free : (words : ℕ) (used : List Allocation) (class p : ℕ) (z : Allocation) → 0 < class → Each (Sound words) used → Pairs PagesApart used
+slot_is_free : (words : ℕ) (used : List Allocation) (class p : ℕ) (z : Allocation) → Words class → Each (Sound words) used → Pairs PagesApart used
     → is_slab_block z ≡ true → z.size ≡ class → slot_in used class p ≡ Some z.start → Free words used z
-slot_is_free words used class p z some sound apart slab size h =
+slot_is_free words used class p z whole sound apart slab size h =
+    let some = words_some class whole in
     let s = slot_some (is_slab_page used class p) (find (λ a. not (is_taken used a)) (slots_from class (4096 / class) (page_start p))) z.start h in
     let f = find_in (λ a. not (is_taken used a)) (slots_from class (4096 / class) (page_start p)) z.start s.1 in
     let r = slots_in class (4096 / class) (page_start p) z.start f.1 in
@@ -81,6 +87,7 @@ slot_is_free words used class p z some sound apart slab size h =
       omega (arith, size, some),
       (omega (arith, start, low), omega (arith, start, size, inside)),
       (λ e. (p, r.0, subst (λ n. z.start ≡ page_start p + n * r.0) (sym size) start, subst (λ n. n * suc r.0 ≤ 4096) (sym size) fits, room)),
+      ((512 * p + suc whole.0 * r.0, start ∙ slot_word base p class r.0 whole.0 whole.1), subst Words (sym size) whole),
     )
     (λ x i. elim (pairs_in PagesApart used x0 x apart old.1 i) [
       | inl same ↦ subst (λ (y : Allocation). PagesApart y z) same (inr (both.0, slab, size0 ∙ sym size, page0 ∙ sym page, differs x0 old.1))
@@ -88,34 +95,38 @@ slot_is_free words used class p z some sound apart slab size h =
     ])
 
 -- where a slab block is placed
-pub slab_is_free : (words : ℕ) (used : List Allocation) (class : ℕ) (z : Allocation) → 0 < class → class ≤ 4096 → Each (Sound words) used → Pairs PagesApart used
+pub slab_is_free : (words : ℕ) (used : List Allocation) (class : ℕ) (z : Allocation) → Words class → class ≤ 4096 → Each (Sound words) used → Pairs PagesApart used
     → is_slab_block z ≡ true → z.size ≡ class → slab_place words used class ≡ Some z.start → Free words used z × (lowest_slab used class ≡ z.start)
-slab_is_free words used class z some most sound apart slab size h = by_slot (free_slot used class) refl h where
+slab_is_free words used class z whole most sound apart slab size h = by_slot (free_slot used class) refl h where
   by_slot : (o : Option ℕ) → free_slot used class ≡ o → (elim o as (λ _. Option ℕ) [ Some a ↦ Some a | None ↦ run_place words used 1 ]) ≡ Some z.start
       → Free words used z × (unwrap_or o (page_start (lowest_run used 1)) ≡ z.start)
   by_slot (Some a) e s =
       let q = slot_found used class (page_behind used) 0 z.start (e ∙ s) in
-      (slot_is_free words used class q.0 z some sound apart slab size q.1, cc)
+      (slot_is_free words used class q.0 z whole sound apart slab size q.1, cc)
   by_slot None e s =
       let r = run_is words used 1 z.start s in
-      (run_is_free words used 1 z r.0 r.1 (omega (arith, size, some)) (omega (arith, size, most)) (λ _. omega (arith, size, most)), sym r.1)
+      (run_is_free words used 1 z r.0 r.1 (subst Words (sym size) whole) (omega (arith, size, most)) (λ _. omega (arith, size, most)), sym r.1)
 
 -- the sizes of slab blocks
 abbrev IsClass : ℕ → Type 0
-IsClass c = (0 < c) × (c ≤ 4096)
+IsClass c = Words c × (c ≤ 4096)
 
 classes_are : Each IsClass classes
 classes_are =
-    ((omega arith, omega arith), ((omega arith, omega arith), ((omega arith, omega arith), ((omega arith, omega arith), ((omega arith, omega arith), ((omega arith, omega arith), ((omega arith, omega arith), ((omega arith, omega arith), ((omega arith, omega arith), ((omega arith, omega arith), ((omega arith, omega arith), ((omega arith, omega arith), tt))))))))))))
+    (((0, refl), omega arith), (((1, refl), omega arith), (((3, refl), omega arith), (((7, refl), omega arith), (((11, refl), omega arith), (((15, refl), omega arith), (((23, refl), omega arith), (((31, refl), omega arith), (((63, refl), omega arith), (((127, refl), omega arith), (((255, refl), omega arith), (((511, refl), omega arith), tt))))))))))))
 
 class_is : (size : ℕ) → IsClass (class_of size)
 class_is size = found_class (find (nat_le size) classes) refl where
   found_class : (o : Option ℕ) → find (nat_le size) classes ≡ o → IsClass (unwrap_or o 4096)
-  found_class None e = (omega arith, omega arith)
+  found_class None e = ((511, refl), omega arith)
   found_class (Some c) e = (find_each IsClass (nat_le size) classes c e classes_are).1
 
-pub pages_some : (size : ℕ) → 0 < size → 0 < 4096 * pages_for size
-pages_some size lt = omega (arith, lt)
+-- pages are whole words
+pub run_words : (n : ℕ) → 0 < n → Words (4096 * n)
+run_words n lt = (512 * n - 1, omega (arith, lt))
+
+pub pages_words : (size : ℕ) → 0 < size → Words (4096 * pages_for size)
+pages_words size lt = run_words (pages_for size) (omega (arith, lt))
 
 pub pages_hold : (size : ℕ) → size ≤ 4096 * pages_for size
 pages_hold size = omega arith
@@ -130,5 +141,5 @@ kmalloc_is_free words used size a some sound apart h =
       | true ↦ λ s. let c = class_is size in
           (slab_is_free words used (class_of size) (record { «use» = SlabBlock; start = a; size = class_of size }) c.0 c.1 sound apart refl refl s).0
       | false ↦ λ s. let r = run_is words used (pages_for size) a s in
-          run_is_free words used (pages_for size) (record { «use» = LargeRun; start = a; size = 4096 * pages_for size }) r.0 r.1 (pages_some size some) (omega arith) (λ e. absurd cc)
+          run_is_free words used (pages_for size) (record { «use» = LargeRun; start = a; size = 4096 * pages_for size }) r.0 r.1 (pages_words size some) (omega arith) (λ e. absurd cc)
     ] h

@@ -87,7 +87,7 @@ pub last_is : (past : Past) → last_load past ≡ newest (loads past)
 last_is past = elim (loads past) as (λ ls. (elim ls as (λ _. Option ScanLoad) [ [] ↦ None | l ∷ _ ↦ Some l ]) ≡ newest ls) [ [] ↦ refl | l ∷ ls ↦ refl ]
 
 white_at : (past : Past) (id a : ℕ) → WhiteWord past id a → WhiteAt (loads past) (world past).blocks id a
-white_at past id a f = (f.0, f.1, f.2, f.3, sym (white_is past f.0) ∙ f.4)
+white_at past id a f = (f.0, f.1, f.2, (let w = f.3 in (w.0, (let k = w.1 in omega (arith, k)), w.2)), sym (white_is past f.0) ∙ f.4)
 
 -- the next load is a good one
 pub next_good : (past : Past) (place : Place) → Fits (at_begin past) (loads past) (world past) → next past ≡ Some place

@@ -4,6 +4,7 @@ use Rattle.km_base.specs.declared.acts.Act.TheVariants.{Step}
 use Rattle.km_base.specs.declared.acts.Answer.{Answer}
 use Rattle.km_base.specs.declared.acts.Answer.TheVariants.{Loaded}
 use Rattle.km_model.specs.History.{History}
+use Rattle.km_model.specs.Memory.{base}
 use Rattle.km_model.specs.Blocks.{Block}
 use Rattle.km_model.specs.Placement.{Allocation}
 use Rattle.km_model.specs.Tasks.{Task}
@@ -14,12 +15,12 @@ use Rattle.km_model.specs.Follows.{Follows, moment, past_of}
 use Rattle.km_model.specs.Headline.{IsMemorySize}
 use Rattle.km_laws.specs.Members.{Each, Pairs}
 use Rattle.km_laws.specs.Left.{left}
-use Rattle.km_laws.specs.Placed.{AllocationsApart, BlocksApart, InMemory, BlockPlaced, StackPlaced}
+use Rattle.km_laws.specs.Placed.{AllocationsApart, BlocksApart, InMemory, WholeWords, BlockPlaced, StackPlaced}
 
--- what stands at a moment is placed: live allocations have bytes, lie in the memory and never meet; each live block
--- lies in one, and no two blocks meet; the stack of each task is one, and no two tasks have the same
+-- what stands at a moment is placed: live allocations are whole words of the memory and never meet; each live block
+-- is whole words of one, and no two blocks meet; the stack of each task is one, and no two tasks have the same
 pub record IsPlaced (words : ℕ) (w : World) : Type 0 where
-  pub allocations : Each (λ (x : Allocation). (0 < x.size) × InMemory words x.start x.size) w.used
+  pub allocations : Each (λ (x : Allocation). (0 < x.size) × InMemory words x.start x.size × WholeWords x.start x.size) w.used
   pub allocations_apart : Pairs AllocationsApart w.used
   pub blocks : Each (BlockPlaced w.used) w.blocks
   pub blocks_apart : Pairs BlocksApart w.blocks
@@ -29,6 +30,12 @@ pub record IsPlaced (words : ℕ) (w : World) : Type 0 where
 -- at each moment of a history that follows, what stands is placed
 abbrev pub AllIsPlaced : Type 0
 AllIsPlaced = (words : ℕ) (h : History) → IsMemorySize words → Follows words h → IsPlaced words (world (past_of h))
+
+-- the next load of a scan names a word of the memory
+abbrev pub NextIsAWord : Type 0
+NextIsAWord =
+    (words : ℕ) (h : History) (place : Place) → IsMemorySize words → Follows words h → next (past_of h) ≡ Some place
+    → (i : ℕ) × (i < words) × (place.word ≡ base + 8 * i)
 
 -- two blocks have different ids, below the number of those ever registered; two tasks different numbers, up to that of those ever started
 pub record HasNames (w : World) : Type 0 where

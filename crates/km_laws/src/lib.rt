@@ -1,13 +1,21 @@
 //! Laws of the definitions of `km_model`, each the contract of a function: what stands never meets, and a scan ends.
 #![tactic(auto)]
 
+pub mod soundness;
+
 ghost use Rattle.km_model.specs.Headline.{ScansEnd};
-ghost use Rattle.km_laws.specs.Laws.{AllIsPlaced, NamesRise, LoadsLower, NothingRaises, LeftIsBounded};
+ghost use Rattle.km_laws.specs.Laws.{AllIsPlaced, NextIsAWord, NamesRise, LoadsLower, NothingRaises, LeftIsBounded};
 ghost use Rattle.km_laws.specs.Moves.{LoadsLowerAt, AllMovesLower, NoSkipRaises, AllQueuesFit, NothingRaisesAt, LeftAtIsBounded};
 
-/// Live allocations never meet, each live block lies in one, and stacks are allocations.
+/// Live allocations are whole words of the memory and never meet; each live block is whole words of one, and no two
+/// blocks meet; stacks are allocations.
 pub fn all_is_placed()
     ensures { AllIsPlaced }
+{}
+
+/// The next load of a scan names a word of the memory.
+pub fn next_is_a_word()
+    ensures { NextIsAWord }
 {}
 
 /// The ids of blocks and the numbers of tasks rise.
