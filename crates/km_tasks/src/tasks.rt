@@ -12,7 +12,7 @@ ghost use Rattle.km_pages.specs.Uses.{same_use};
 ghost use Rattle.km_pages.specs.Runs.{given, lowest_free, place, run_from, taken};
 ghost use Rattle.km_pages.specs.Laid.{AreLaid};
 ghost use Rattle.km_tasks.specs.Roll.{Fits, answer_of, refused_first, stack_page, start_answer, task_after, with_task, with_value, without};
-ghost use Rattle.km_tasks.specs.Lives.{AreNamed, task};
+ghost use Rattle.km_tasks.specs.Lives.{AreNamed, AreNumbered, task};
 
 use crate::errors::{NoTask, TaskFault};
 use km_base::{Addr, Name, NoMemory, Reg, Span};
@@ -45,13 +45,13 @@ pub struct Tasks {
 impl Model for Tasks {
     ghost use Rattle.std.specs.Prelude.{◌≤◌, map, vec_len, vec_capacity};
     ghost use Rattle.km_tasks.specs.Roll.{Roll};
-    ghost use Rattle.km_tasks.specs.Lives.{AreNamed, task};
+    ghost use Rattle.km_tasks.specs.Lives.{AreNamed, AreNumbered, task};
 
     ghost Value = { Roll };
 
     ghost view = { λ s. record { started = s.started; tasks = map task s.lives.items } };
 
-    ghost invariant = { λ s. (vec_len s.lives ≤ 64) × (64 ≤ vec_capacity s.lives) × AreNamed (map task s.lives.items) };
+    ghost invariant = { λ s. (vec_len s.lives ≤ 64) × (64 ≤ vec_capacity s.lives) × AreNamed (map task s.lives.items) × AreNumbered 0 (map task s.lives.items) s.started };
 }
 
 /// Whether two names are one.
@@ -122,6 +122,7 @@ fn set_at(lives: &mut Vec<Live>, i: usize, name: Name, reg: Reg, value: u64)
     requires names { AreNamed (map task lives.old.items) }
     ensures set { map task lives.new.items ≡ with_register (map task lives.old.items) name reg value }
     ensures names { AreNamed (map task lives.new.items) }
+    ensures numbers { (high : ℕ) → AreNumbered 0 (map task lives.old.items) high → AreNumbered 0 (map task lives.new.items) high }
     ensures len { vec_len lives.new ≡ vec_len lives.old }
     ensures capacity { vec_capacity lives.new ≡ vec_capacity lives.old }
 {
@@ -135,6 +136,7 @@ fn remove_at(lives: &mut Vec<Live>, i: usize, name: Name)
     requires names { AreNamed (map task lives.old.items) }
     ensures gone { map task lives.new.items ≡ without_task (map task lives.old.items) name }
     ensures names { AreNamed (map task lives.new.items) }
+    ensures numbers { (high : ℕ) → AreNumbered 0 (map task lives.old.items) high → AreNumbered 0 (map task lives.new.items) high }
     ensures len { vec_len lives.new + 1 ≡ vec_len lives.old }
     ensures capacity { vec_capacity lives.new ≡ vec_capacity lives.old }
 {
@@ -265,6 +267,7 @@ impl Tasks {
         ensures number { option_map (λ r. r.0) result ≡ option_map (λ t. t.number) (task_after self.now.tasks number) }
         ensures stack { option_map (λ r. r.1.start.0) result ≡ option_map (λ t. t.stack) (task_after self.now.tasks number) }
         ensures size { IfSome result (λ r. r.1.size ≡ 4096) }
+        ensures numbers { AreNumbered 0 self.now.tasks self.now.started }
     {
         match first_above(&self.lives, number) {
             Some(live) => Some((

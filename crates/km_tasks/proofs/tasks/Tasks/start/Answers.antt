@@ -1,13 +1,14 @@
-use Rattle.std.proofs.Common.{◌≡◌, map, refl, ap, sym, subst, ◌∙◌, arith}
+use Rattle.std.proofs.Common.{◌≡◌, ◌+◌, map, refl, ap, sym, subst, ◌∙◌, arith}
 use Rattle.std.proofs.lemmas.List.{map-append}
 use Rattle.km_model.specs.Memory.{base}
 use Rattle.km_model.specs.Placement.{page_start, page_of, lowest_run}
 use Rattle.km_model.specs.Tasks.{task_named}
 use Rattle.km_pages.specs.Runs.{lowest_free}
 use Rattle.km_pages.proofs.Touching.{page_of_start}
-use Rattle.km_tasks.specs.Lives.{task, AreNamed}
+use Rattle.km_tasks.specs.Lives.{task, AreNamed, AreNumbered}
 use Rattle.km_tasks.specs.Roll.{Fits, Roll, stack_page}
 use Rattle.km_tasks.proofs.Names.{named_push}
+use Rattle.km_tasks.proofs.Numbers.{numbered_push}
 use Rattle.km_tasks.proofs.Stacks.{fits_started}
 use Rattle.km_tasks.proofs.tasks.Tasks.start.Goals as goal
 
@@ -21,6 +22,8 @@ invariant_of-self c =
       omega (arith, capacity, was),
       subst AreNamed (sym (ap (map task) c.push_reserved.ensures.items ∙ map-append task c.self.inside.lives.items _))
           (named_push (map task c.self.inside.lives.items) _ c.self.invariant.2 (ap (λ ls. task_named (map task ls) c.args.name) (sym c.deref.ensures.value) ∙ c.in_default.ensures.unnamed refl)),
+      subst (λ ts. AreNumbered 0 ts (c.self.inside.started + 1)) (sym (ap (map task) c.push_reserved.ensures.items ∙ map-append task c.self.inside.lives.items _))
+          (numbered_push 0 c.self.inside.started (map task c.self.inside.lives.items) _ refl c.self.invariant.3),
     )
 
 pub returns-clause-fits : goal.returns-clause-fits
