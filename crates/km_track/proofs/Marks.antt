@@ -1,7 +1,7 @@
-use Rattle.std.proofs.Common.{◌≡◌, ℕ, ◌+◌, Bool, true, false, ◌&&◌, ◌||◌, ◌==◌, List, [], ◌∷◌, ◌++◌, map, set, Some, if◌then◌else◌, refl, sym, ap, ◌∙◌, subst, arith, get_or-set_same}
+use Rattle.std.proofs.Common.{◌≡◌, ℕ, ◌+◌, Bool, true, false, ◌&&◌, ◌||◌, ◌==◌, List, [], ◌∷◌, ◌++◌, map, set, drop, Some, if◌then◌else◌, refl, sym, ap, ◌∙◌, subst, arith, get_or-set_same}
 use Rattle.std.specs.Prelude.{find}
 use Rattle.std.specs.List.{list_any}
-use Rattle.std.proofs.lemmas.Bool.{le-ltb, or_left, or_from, eqb-true, eq-eqb, ne_eqb, both_ways}
+use Rattle.std.proofs.lemmas.Bool.{le-ltb, or_left, or_right, or_parts, or_from, eqb-true, eq-eqb, ne_eqb, both_ways}
 use Rattle.std.proofs.lemmas.List.{map-append}
 use Rattle.std.proofs.lemmas.List.Folds.{list_any-append}
 use Rattle.km_model.specs.Blocks.{needs, references_of}
@@ -21,6 +21,7 @@ use Rattle.km_track.specs.Tracker.{Live, Tracker, changed, counted, judged, queu
 use Rattle.km_track.specs.Holds.{live_at, Holds}
 use Rattle.km_track.proofs.Searches.{with_id, live_id}
 use Rattle.km_track.proofs.Writes.{Wrote, wrote, same_sound, ids_in, at_id}
+use Rattle.km_track.proofs.Leaves.{one_id}
 
 -- the marks that a scan leaves
 
@@ -139,3 +140,18 @@ pub summed_marked : (S T : List Slot) (order grey free : List ℕ) (es : List En
     → now ≡ differs (slot_at S id.slot).«record».sum sum → Marked S T order grey free es reg id now (summed sum)
 summed_marked S T order grey free es reg id now sum h w white e n =
     marked S T order grey free es reg id now (summed sum) (slot_summed sum (slot_at S id.slot)) h w white e refl refl refl refl (λ t. full_dark (slot_at S id.slot).«record».minimum (slot_at S id.slot).«record» sum refl (sym n ∙ t))
+
+-- the number of the head of the queue is no other's in it
+pub head_once : (S : List Slot) (order grey free : List ℕ) (es : List Entry) (reg n : ℕ) → Holds S order grey free es reg → Some n ≡ first_of grey → is_in (slot_at S n).generation (drop 1 (ids_in S grey)) ≡ false
+head_once S order [] free es reg n h e = refl
+head_once S order (m ∷ grey) free es reg n h e =
+    let same : n ≡ m = cc in subst (λ k. is_in (slot_at S k).generation (ids_in S grey) ≡ false) (sym same) (none grey (λ k i. (h.queued k (or_right (m == k) _ i)).0) h.greys.0)
+  where
+    m_in : is_in m order ≡ true
+    m_in = (h.queued m (or_left _ _ (eq-eqb m m refl))).0
+    none : (rest : List ℕ) → ((k : ℕ) → is_in k rest ≡ true → is_in k order ≡ true) → is_in m rest ≡ false → is_in (slot_at S m).generation (ids_in S rest) ≡ false
+    none [] within out = refl
+    none (k ∷ rest) within out =
+        let p = or_parts (k == m) (is_in m rest) out in
+        rw (ne_eqb (slot_at S k).generation (slot_at S m).generation (λ g. both_ways (k == m) p.0 (eq-eqb k m (one_id S 0 order reg k m h.ids (within k (or_left _ _ (eq-eqb k k refl))) m_in g))))
+        (none rest (λ j i. within j (or_right (k == j) _ i)) p.1)

@@ -1,7 +1,7 @@
 //! The tracker.
 
-ghost use Rattle.std.specs.Prelude.{OnOk, None, length, is_err, IfErr, ◌%◌, ◌^◌, if◌then◌else◌, drop, ◌&&◌, ◌+◌, not, ◌≡◌, ◌≤◌, ◌<◌, [], true, is_ok, is_some, OnErr, IfOk, IfSome, option_map};
-ghost use Rattle.km_links.specs.Chains.{first_of};
+ghost use Rattle.std.specs.Prelude.{OnOk, None, length, is_err, IfErr, ◌%◌, ◌^◌, if◌then◌else◌, drop, ◌&&◌, ◌+◌, not, ◌≡◌, ◌≤◌, ◌<◌, [], true, is_ok, is_some, OnErr, IfOk, IfSome, false, option_map};
+ghost use Rattle.km_links.specs.Chains.{first_of, is_in};
 ghost use Rattle.km_model.specs.Scan.{differs};
 ghost use Rattle.km_state.specs.State.{is_white_now};
 ghost use Rattle.std.specs.Result.{result_ok};
@@ -260,6 +260,8 @@ impl<M: ObjectMap> Track<M> {
     pub fn pop_grey(&mut self) -> Option<RecId>
         ensures head { option_map (λ i. i.generation) result ≡ first_of self.old.queue }
         ensures live { IfSome result (λ i. is_live i self.old ≡ true) }
+        ensures grey { IfSome result (λ i. (l : Live) → live_with i self.old ≡ Some l → is_white_now l.tracked ≡ false) }
+        ensures once { IfSome result (λ i. is_in i.generation (drop 1 self.old.queue) ≡ false) }
         ensures rest { self.new ≡ record self.old { queue = drop 1 self.old.queue } }
     {
         let slot = self.links.pop_front(Which::Grey)?;
