@@ -1,10 +1,10 @@
-use Rattle.std.proofs.Common.{◌≡◌, ℕ, ◌<◌, ◌≤◌, Bool, true, false, ◌||◌, ◌==◌, ◌⊎◌, List, [], ◌∷◌, map, inl, inr, refl, sym, ap, ◌∙◌, subst, arith}
+use Rattle.std.proofs.Common.{◌≡◌, ℕ, ◌≤◌, true, false, ◌==◌, ◌⊎◌, List, [], ◌∷◌, map, inl, inr, refl, sym, ap, ◌∙◌, subst}
 use Rattle.std.proofs.lemmas.Bool.{or_left, or_right, eq-eqb, both_ways}
 use Rattle.km_links.specs.Chains.{is_in, IsDistinct}
 use Rattle.km_map.specs.declared.entries.Entry.{Entry}
 use Rattle.km_map.specs.Entries.{end_of, StartFrom, IsRising}
 use Rattle.km_track.specs.declared.slots.Slot.{Slot}
-use Rattle.km_track.specs.Tracker.{AreApart, IsApartFrom, NeverMeet}
+use Rattle.km_track.specs.Tracker.{IsApartFrom, NeverMeet}
 use Rattle.km_track.specs.Holds.{IsAmong, entry_at, live_at}
 use Rattle.km_track.proofs.Members.{start_among, sized}
 

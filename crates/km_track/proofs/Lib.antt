@@ -7,3 +7,4 @@ pub mod Enters
 pub mod Starts
 pub mod Areas
 pub mod Apart
+pub mod Lives

@@ -149,6 +149,7 @@ head_once S order (m ∷ grey) free es reg n h e =
   where
     m_in : is_in m order ≡ true
     m_in = (h.queued m (or_left _ _ (eq-eqb m m refl))).0
+
     none : (rest : List ℕ) → ((k : ℕ) → is_in k rest ≡ true → is_in k order ≡ true) → is_in m rest ≡ false → is_in (slot_at S m).generation (ids_in S rest) ≡ false
     none [] within out = refl
     none (k ∷ rest) within out =

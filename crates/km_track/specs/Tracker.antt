@@ -65,6 +65,12 @@ abbrev pub live_behind : RecId → List Live → Option Live
 live_behind id [] = None
 live_behind id (l ∷ ls) = if is_id id l then first_live ls else live_behind id ls
 
+-- the live blocks from this one on
+abbrev pub live_from : Option RecId → List Live → List Live
+live_from None ls = []
+live_from (Some id) [] = []
+live_from (Some id) (l ∷ ls) = if is_id id l then l ∷ ls else live_from (Some id) ls
+
 -- whether a block begins at an address
 abbrev pub begins : ℕ → Block → Bool
 begins a b = b.start == a

@@ -34,13 +34,13 @@ impl<M: ObjectMap> Model for Track<M> {
 
     ghost Value = { Tracker };
 
-    ghost use Rattle.std.specs.Prelude.{if◌then◌else◌, drop, ◌&&◌, ◌+◌, not, ◌≡◌, ◌+◌, ◌-◌, ◌≤◌, length, map as over, vec_len, vec_capacity};
+    ghost use Rattle.std.specs.Prelude.{if◌then◌else◌, drop, ◌&&◌, ◌+◌, not, ◌≡◌, ◌+◌, ◌-◌, ◌≤◌, length, ◌<◌, ◌^◌, map as over, vec_len, vec_capacity};
     ghost use Rattle.km_track.specs.Holds.{Holds, live_at};
     ghost use Rattle.km_track.specs.Slots.{slot_at};
 
     ghost view = { λ t. record { live = over (live_at t.slots.items) t.links.order; queue = over (λ n. (slot_at t.slots.items n).generation) t.links.grey; registered = t.registered; spare = t.capacity - length t.links.order } };
 
-    ghost invariant = { λ t. record { holds : Holds t.slots.items t.links.order t.links.grey t.links.free (M.entries t.map) t.registered; room : t.capacity ≤ M.room t.map + length t.links.order; lists : t.links.capacity ≡ t.capacity; within : vec_len t.slots ≤ t.capacity; reserved : t.capacity ≤ vec_capacity t.slots } };
+    ghost invariant = { λ t. record { holds : Holds t.slots.items t.links.order t.links.grey t.links.free (M.entries t.map) t.registered; room : t.capacity ≤ M.room t.map + length t.links.order; lists : t.links.capacity ≡ t.capacity; within : vec_len t.slots ≤ t.capacity; reserved : t.capacity ≤ vec_capacity t.slots; small : t.capacity < 2 ^ 32 } };
 }
 
 impl<M: ObjectMap> Track<M> {
@@ -135,7 +135,10 @@ impl<M: ObjectMap> Track<M> {
 
     /// The block that was registered first.
     pub fn first(&self) -> Option<RecId>
-        ensures { result ≡ option_map id_of (first_live self.now.live) }
+        ensures first { result ≡ option_map id_of (first_live self.now.live) }
+        ensures rising { AreRising 0 self.now.live self.now.registered }
+        ensures apart { NeverMeet self.now.live }
+        ensures few { length self.now.live < 2 ^ 32 }
     {
         let slot = self.links.first(Which::Order)?;
         let generation = self.slots[slot as usize].generation;

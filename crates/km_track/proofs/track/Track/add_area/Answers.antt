@@ -38,7 +38,7 @@ pub invariant_of-self-2 : goal.invariant_of-self-2
 invariant_of-self-2 g c =
     let i = c.self.invariant in
     let w = wrote_area (record { start = c.args.a; size = c.args.size }) c.self.inside.slots.items c.add_area.new.slots.items c.self.inside.links.order c.self.inside.links.grey c.self.inside.links.free _ c.self.inside.registered c.in-Some.slot i.holds (c.in-Some.ensures {u = tt}).slot (c.in_default-add_area.ensures {u = tt}).items in
-    record { holds = w.holds; room = i.room; lists = i.lists; within = omega (arith, w.long, i.within, c.add_area.new.slots.ok.0, c.self.inside.slots.ok.0); reserved = omega (arith, i.reserved, c.add_area.ensures.capacity) }
+    record { holds = w.holds; room = i.room; lists = i.lists; within = omega (arith, w.long, i.within, c.add_area.new.slots.ok.0, c.self.inside.slots.ok.0); reserved = omega (arith, i.reserved, c.add_area.ensures.capacity); small = i.small }
 
 pub returns-clause-answer : goal.returns-clause-answer
 returns-clause-answer g c =

@@ -19,7 +19,7 @@ pub invariant_of-self : goal.invariant_of-self
 invariant_of-self g c =
     let i = c.self.invariant in
     let w = wrote_unscanned c.self.inside.slots.items c.stop_scanning.new.slots.items c.self.inside.links.order c.self.inside.links.grey c.self.inside.links.free _ c.self.inside.registered c.args.start.0 c.in-Some.slot i.holds (c.in-Some.ensures {u = tt}).slot c.stop_scanning.ensures.items in
-    record { holds = w.holds; room = i.room; lists = i.lists; within = omega (arith, w.long, c.stop_scanning.new.slots.ok.0, c.self.inside.slots.ok.0); reserved = omega (arith, c.stop_scanning.ensures.capacity) }
+    record { holds = w.holds; room = i.room; lists = i.lists; within = omega (arith, w.long, c.stop_scanning.new.slots.ok.0, c.self.inside.slots.ok.0); reserved = omega (arith, c.stop_scanning.ensures.capacity); small = i.small }
 
 pub returns-clause-answer : goal.returns-clause-answer
 returns-clause-answer g c =

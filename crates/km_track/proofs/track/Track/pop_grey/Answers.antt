@@ -1,4 +1,4 @@
-use Rattle.std.proofs.Common.{◌≡◌, ℕ, false, drop, sym, ap, ◌∙◌, subst}
+use Rattle.std.proofs.Common.{◌≡◌, ℕ, false, drop, sym, ap, subst}
 use Rattle.km_links.specs.Chains.{is_in}
 use Rattle.km_state.specs.State.{is_white_now}
 use Rattle.km_track.specs.Tracker.{Live}

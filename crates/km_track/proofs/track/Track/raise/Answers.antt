@@ -23,7 +23,7 @@ pub invariant_of-self : goal.invariant_of-self
 invariant_of-self g c =
     let i = c.self.invariant in
     let m = counted_marked c.self.inside.slots.items c.count-is_enough.new.slots.items c.self.inside.links.order c.self.inside.links.grey c.self.inside.links.free _ c.self.inside.registered c.args.id c.count-is_enough.result i.holds (rw (← ap (λ (t : Tracker). t.live) c.self.view_is) at c.requires.live) (c.requires.white (live_at c.self.inside.slots.items c.args.id.slot) (rw (← ap (λ (t : Tracker). t.live) c.self.view_is) (with_id c.self.inside.slots.items _ c.args.id (live_id c.self.inside.slots.items _ c.args.id (rw (← ap (λ (t : Tracker). t.live) c.self.view_is) at c.requires.live)).0 (live_id c.self.inside.slots.items _ c.args.id (rw (← ap (λ (t : Tracker). t.live) c.self.view_is) at c.requires.live)).1))) c.count-is_enough.ensures.items c.count-is_enough.ensures.answer in
-    rw c.queue_where.ensures (record { holds = m.holds; room = i.room; lists = i.lists; within = omega (arith, m.wrote.long, c.count-is_enough.new.slots.ok.0, c.self.inside.slots.ok.0); reserved = omega (arith, c.count-is_enough.ensures.capacity) })
+    rw c.queue_where.ensures (record { holds = m.holds; room = i.room; lists = i.lists; within = omega (arith, m.wrote.long, c.count-is_enough.new.slots.ok.0, c.self.inside.slots.ok.0); reserved = omega (arith, c.count-is_enough.ensures.capacity); small = i.small })
 
 pub returns-clause-answer : goal.returns-clause-answer
 returns-clause-answer g c =

@@ -28,7 +28,7 @@ invariant_of-self g c =
     let small = slot_small c.self.inside.slots.items c.place-slot.new.slots.items c.self.inside.links.order c.self.inside.links.grey c.self.inside.links.free c.place-slot.new.links.free (g.M.ObjectMap.entries c.self.inside.map) c.self.inside.registered c.place-slot.result c.self.inside.capacity _ i.holds placed (omega (arith, i.within, c.self.inside.slots.ok.0)) space in
     let lists = c.push_back.ensures ∙ ap (λ (l : Lists). record l { order = l.order ++ c.place-slot.result ∷ [] }) c.place-slot.ensures.others in
     let w = entered c.self.inside.slots.items c.place-slot.new.slots.items c.self.inside.links.order c.self.inside.links.grey c.self.inside.links.free c.place-slot.new.links.free (g.M.ObjectMap.entries c.self.inside.map) c.self.inside.registered c.place-slot.result c.args.span c.args.minimum c.args.born i.holds placed c.place-slot.ensures.out c.requires.start c.requires.size c.requires.end (rw c.insert.ensures.entries at c.insert.ensures.rising) in
-    rw (lists, c.insert.ensures.entries) (record { holds = w.holds; room = omega (arith, i.room, c.insert.ensures.spare, length-append c.self.inside.links.order (c.place-slot.result ∷ [])); lists = i.lists; within = omega (arith, small.1, c.place-slot.new.slots.ok.0); reserved = omega (arith, i.reserved, c.place-slot.ensures.capacity) })
+    rw (lists, c.insert.ensures.entries) (record { holds = w.holds; room = omega (arith, i.room, c.insert.ensures.spare, length-append c.self.inside.links.order (c.place-slot.result ∷ [])); lists = i.lists; within = omega (arith, small.1, c.place-slot.new.slots.ok.0); reserved = omega (arith, i.reserved, c.place-slot.ensures.capacity); small = i.small })
 
 pub returns-clause-answer : goal.returns-clause-answer
 returns-clause-answer g c =

@@ -11,7 +11,7 @@ pub invariant_of-self : goal.invariant_of-self
 invariant_of-self g c =
     let i = c.self.invariant in
     let w = wrote_excess c.args.to c.self.inside.slots.items c.set_excess.new.slots.items c.self.inside.links.order c.self.inside.links.grey c.self.inside.links.free _ c.self.inside.registered c.args.id i.holds (rw (← ap (λ (t : Tracker). t.live) c.self.view_is) at c.requires) c.set_excess.ensures.items in
-    record { holds = w.holds; room = i.room; lists = i.lists; within = omega (arith, w.long, c.set_excess.new.slots.ok.0, c.self.inside.slots.ok.0); reserved = omega (arith, c.set_excess.ensures.capacity) }
+    record { holds = w.holds; room = i.room; lists = i.lists; within = omega (arith, w.long, c.set_excess.new.slots.ok.0, c.self.inside.slots.ok.0); reserved = omega (arith, c.set_excess.ensures.capacity); small = i.small }
 
 pub returns : goal.returns
 returns g c =

@@ -13,7 +13,7 @@ pub invariant_of-self : goal.invariant_of-self
 invariant_of-self g c =
     let i = c.self.invariant in
     let e = c.in_default.ensures {u = tt} in
-    record { holds = rw (e.entries, ← kept_none c.args.start.0 (g.M.ObjectMap.entries c.self.inside.map) e.slot) i.holds; room = omega (arith, i.room, e.spare); lists = i.lists; within = i.within; reserved = i.reserved }
+    record { holds = rw (e.entries, ← kept_none c.args.start.0 (g.M.ObjectMap.entries c.self.inside.map) e.slot) i.holds; room = omega (arith, i.room, e.spare); lists = i.lists; within = i.within; reserved = i.reserved; small = i.small }
 
 pub returns-in_default-clause-answer : goal.returns-in_default-clause-answer
 returns-in_default-clause-answer g c =
@@ -43,7 +43,7 @@ invariant_of-self-2 g c =
     let i = c.self.invariant in
     let e = c.in-Some.ensures {u = tt} in
     let w = left c.self.inside.slots.items c.self.inside.links.order c.self.inside.links.grey c.self.inside.links.free (g.M.ObjectMap.entries c.self.inside.map) c.self.inside.registered c.args.start.0 c.in-Some.slot i.holds (c.in-Some.ensures {u = tt}).slot (rw (c.in-Some.ensures {u = tt}).entries at (c.in-Some.ensures {u = tt}).rising) in
-    rw (c.release.ensures, e.entries) (record { holds = w.holds; room = omega (arith, i.room, e.spare, w.shorter); lists = i.lists; within = i.within; reserved = i.reserved })
+    rw (c.release.ensures, e.entries) (record { holds = w.holds; room = omega (arith, i.room, e.spare, w.shorter); lists = i.lists; within = i.within; reserved = i.reserved; small = i.small })
 
 pub returns-clause-answer : goal.returns-clause-answer
 returns-clause-answer g c =

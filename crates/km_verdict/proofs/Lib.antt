@@ -1,0 +1,4 @@
+pub mod Flags
+pub mod Listings
+pub mod Clears
+pub mod Shown
