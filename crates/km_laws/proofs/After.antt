@@ -7,7 +7,7 @@ use Rattle.km_model.specs.Scan.{behind, phase_of}
 use Rattle.km_laws.specs.Left.{made}
 use Rattle.km_laws.proofs.Lists.{each_weaker, each_in, in_each, In, rising_in, rising_unique, in_push_cases, in_push_left}
 use Rattle.km_laws.proofs.Queues.{not_behind, behind_push, distinct_push}
-use Rattle.km_laws.proofs.Whites.{white_in, grey_stays}
+use Rattle.km_model.proofs.Whites.{white_in, grey_stays}
 use Rattle.km_laws.proofs.Runs.{newest, made_same, made_phase, made_holder, Ahead, Order, HeadGiven, HeadBlock, HeadTask, QueuedGrey, Stands}
 use Rattle.km_laws.proofs.Loads.{GoodStack, GoodGrey, GoodSum, Good}
 

@@ -25,7 +25,7 @@ use Rattle.km_laws.specs.Placed.{BlocksApart, Words, BlockPlaced, is_stack, is_b
 use Rattle.km_laws.proofs.Lists.{Each, In, each_in, in_each, in_push_left, in_push_right, each_push, find_in, filter_in, any_in, pairs_in}
 use Rattle.km_laws.proofs.Pages.{run_is, run_is_free, words_some, Free}
 use Rattle.km_laws.proofs.Slabs.{slab_is_free, kmalloc_is_free, run_words, pages_words, pages_hold}
-use Rattle.km_laws.proofs.Placings.{Placed, StacksApart, apart_parts, one_with, one_at, clear_of, beside, allocated, block_added, block_allocated, task_added, blocks_fewer, blocks_none, tasks_fewer, blocks_changed, tasks_changed, given_back}
+use Rattle.km_laws.proofs.Placings.{Placed, StacksApart, apart_parts, one_with, one_at, clear_of, beside, allocated, block_added, task_added, blocks_fewer, blocks_none, tasks_fewer, blocks_changed, tasks_changed, given_back}
 use Rattle.km_laws.proofs.Since.{IsAnswered, follows_answered}
 use Rattle.km_laws.proofs.Accepted.{unless_open, done_open, at_open, good_size, even_size, memory_word, words_between, end_word, part_open, run_more, kmalloc_more, area_open, area_more}
 use Rattle.km_laws.proofs.Uses.{plain_kind, boot_kind, PlainlyAt, kmalloc_at, area_at, head_at}
@@ -34,18 +34,33 @@ use Rattle.km_laws.proofs.Uses.{plain_kind, boot_kind, PlainlyAt, kmalloc_at, ar
 abbrev pub PlacedIn : ℕ → World → Type 0
 PlacedIn words w = Placed words w.used w.blocks w.tasks
 
+-- a block is registered where it is so
+abbrev added : Bool → World → Block → World
+added q w b = if q then record w { registered = w.registered + 1; blocks = w.blocks ++ b ∷ [] } else w
+
+added_used : (q : Bool) (w : World) (b : Block) → (added q w b).used ≡ w.used
+added_used true w b = refl
+added_used false w b = refl
+
+added_each : (P : Block → Type 0) (q : Bool) (w : World) (b : Block) → Each P w.blocks → P b → Each P (added q w b).blocks
+added_each P true w b e p = each_push P w.blocks b e p
+added_each P false w b e p = e
+
+added_placed : (words : ℕ) (q : Bool) (w : World) (b : Block) → (q ≡ true → BlockPlaced w.used b) → Each (λ c. BlocksApart c b) w.blocks → PlacedIn words w → PlacedIn words (added q w b)
+added_placed words true w b place apart p = block_added words w.used w.blocks w.tasks b (place refl) apart p
+added_placed words false w b place apart p = p
+
 -- an allocation is made, with a block that is registered unless `off` was written
 block_made : (words : ℕ) (w : World) (what : Use) (start size bytes references : ℕ) (excess : Option ℕ) → Free words w.used (record { «use» = what; start = start; size = size })
     → is_tracked (record { «use» = what; start = start; size = size }) ≡ true → bytes ≤ size → Words bytes → PlacedIn words w
     → PlacedIn words (with_block (with_allocation w what start size) start bytes references excess)
 block_made words w what start size bytes references excess free tracked le whole p =
     let z : Allocation = record { «use» = what; start = start; size = size } in
-    elim w.enabled as (λ q. PlacedIn words (if q
-    then record (with_allocation w what start size) { registered = w.registered + 1; blocks = w.blocks ++ next_block (with_allocation w what start size) start bytes references excess ∷ [] }
-    else with_allocation w what start size)) [
-      | true ↦ block_allocated words w.used w.blocks w.tasks z (next_block (with_allocation w what start size) start bytes references excess) free tracked refl le whole p
-      | false ↦ allocated words w.used w.blocks w.tasks z free p
-    ]
+    let b : Block = next_block (with_allocation w what start size) start bytes references excess in
+    added_placed words w.enabled (with_allocation w what start size) b
+    (λ _. (z, in_push_right w.used z, tracked, omega arith, omega (arith, le), inl refl, (free.0.3.0, whole)))
+    (clear_of words w.used w.blocks w.tasks z b free refl le p)
+    (allocated words w.used w.blocks w.tasks z free p)
 
 section_placed : (words : ℕ) (w : World) (name : List ℕ) (n a : ℕ) → 0 < n → run_place words w.used (pages_for (8 * n)) ≡ Some a → PlacedIn words w
     → PlacedIn words (with_section w name n (page_start (lowest_run w.used (pages_for (8 * n)))))
@@ -119,27 +134,6 @@ boot_placed words w size a whole h p =
     block_made words w BootRun a (4096 * pages_for size) size 0 None
     (run_is_free words w.used (pages_for size) z r.0 r.1 (pages_words size (words_some size whole)) (omega arith) (λ e. absurd cc)) refl (pages_hold size) whole p
 
--- what a registration leaves alone, and what it adds
-register_used : (v : World) (start size references : ℕ) (excess : Option ℕ) → (with_block v start size references excess).used ≡ v.used
-register_used v start size references excess =
-    elim v.enabled as (λ q. (if q then record v { registered = v.registered + 1; blocks = v.blocks ++ next_block v start size references excess ∷ [] } else v).used ≡ v.used) [ true ↦ refl | false ↦ refl ]
-
-register_each : (P : Block → Type 0) (v : World) (start size references : ℕ) (excess : Option ℕ) → Each P v.blocks → P (next_block v start size references excess)
-    → Each P (with_block v start size references excess).blocks
-register_each P v start size references excess e p =
-    elim v.enabled as (λ q. Each P (if q then record v { registered = v.registered + 1; blocks = v.blocks ++ next_block v start size references excess ∷ [] } else v).blocks) [
-      | true ↦ each_push P v.blocks (next_block v start size references excess) e p
-      | false ↦ e
-    ]
-
-register_placed : (words : ℕ) (v : World) (start size references : ℕ) (excess : Option ℕ) → BlockPlaced v.used (next_block v start size references excess)
-    → Each (λ c. BlocksApart c (next_block v start size references excess)) v.blocks → PlacedIn words v → PlacedIn words (with_block v start size references excess)
-register_placed words v start size references excess place apart p =
-    elim v.enabled as (λ q. PlacedIn words (if q then record v { registered = v.registered + 1; blocks = v.blocks ++ next_block v start size references excess ∷ [] } else v)) [
-      | true ↦ block_added words v.used v.blocks v.tasks (next_block v start size references excess) place apart p
-      | false ↦ p
-    ]
-
 vmalloc_placed : (words : ℕ) (w : World) (size area : ℕ) → 0 < size → area_place words w.used size ≡ Some area → PlacedIn words w → PlacedIn words (with_vmalloc w size (lowest_slab w.used 64) area)
 vmalloc_placed words w size area some h p =
     let k = area_open words w.used size area h in
@@ -161,11 +155,11 @@ vmalloc_placed words w size area some h p =
     let b_clear : Each (λ d. BlocksApart d b) placed.blocks = clear_of words w.used w.blocks w.tasks z b free.0 refl (omega arith) p in
     let c_in : BlockPlaced placed.used c = (y, in_push_right used y, refl, omega arith, omega arith, inl refl, free'.0.3) in
     let c_clear : Each (λ d. BlocksApart d c) first.blocks =
-    register_each (λ d. BlocksApart d c) placed head 64 1 (Some area) (clear_of words used w.blocks w.tasks y c free' refl (omega arith) p1)
+    added_each (λ d. BlocksApart d c) placed.enabled placed b (clear_of words used w.blocks w.tasks y c free' refl (omega arith) p1)
     (beside words used w.blocks w.tasks z y p1 free' (in_push_right w.used z)) in
-    let p3 : PlacedIn words first = register_placed words placed head 64 1 (Some area) b_in b_clear p2 in
+    let p3 : PlacedIn words first = added_placed words placed.enabled placed b (λ _. b_in) b_clear p2 in
     subst (λ (a : ℕ). PlacedIn words (with_vmalloc w size a area)) (sym free.1)
-    (register_placed words first area span 2 None (subst (λ u. BlockPlaced u c) (sym (register_used placed head 64 1 (Some area))) c_in) c_clear p3)
+    (added_placed words first.enabled first c (λ _. subst (λ u. BlockPlaced u c) (sym (added_used placed.enabled placed b)) c_in) c_clear p3)
 
 -- what a live allocation that begins at an address is, each one that begins there is
 plainly : (words : ℕ) (w : World) (a : ℕ) → PlacedIn words w → PlainlyAt w.used a → (x : Allocation) → In x w.used → x.start ≡ a → (is_boot x ≡ false) × (is_stack x ≡ false)
@@ -213,34 +207,6 @@ vfree_placed words w a None e p = p
 vfree_placed words w a (Some slot) e p =
     head_placed words w a (head_with w.used slot) (area_at w.used a slot e) (λ head f. head_at w.used slot head f) p
 
--- what is left of a block
-rest_each : (P : Block → Type 0) (w : World) (b : Block) (start size : ℕ) → Each P w.blocks → P (record b { id = w.registered; start = start; size = size; areas = []; excess = None })
-    → Each P (with_rest w b start size).blocks
-rest_each P w b start size e p =
-    let rest : Block = record b { id = w.registered; start = start; size = size; areas = []; excess = None } in
-    elim (w.enabled && nat_lt 0 size) as (λ q. Each P (if q then record w { registered = w.registered + 1; blocks = w.blocks ++ rest ∷ [] } else w).blocks) [
-      | true ↦ each_push P w.blocks rest e p
-      | false ↦ e
-    ]
-
-rest_used : (w : World) (b : Block) (start size : ℕ) → (with_rest w b start size).used ≡ w.used
-rest_used w b start size =
-    let rest : Block = record b { id = w.registered; start = start; size = size; areas = []; excess = None } in
-    elim (w.enabled && nat_lt 0 size) as (λ q. (if q then record w { registered = w.registered + 1; blocks = w.blocks ++ rest ∷ [] } else w).used ≡ w.used) [
-      | true ↦ refl
-      | false ↦ refl
-    ]
-
-rest_placed : (words : ℕ) (w : World) (b : Block) (start size : ℕ) → (0 < size → BlockPlaced w.used (record b { id = w.registered; start = start; size = size; areas = []; excess = None }))
-    → Each (λ c. BlocksApart c (record b { id = w.registered; start = start; size = size; areas = []; excess = None })) w.blocks → PlacedIn words w → PlacedIn words (with_rest w b start size)
-rest_placed words w b start size place apart p =
-    let rest : Block = record b { id = w.registered; start = start; size = size; areas = []; excess = None } in
-    let P = λ (q : Bool). (w.enabled && nat_lt 0 size) ≡ q → PlacedIn words (if q then record w { registered = w.registered + 1; blocks = w.blocks ++ rest ∷ [] } else w) in
-    elim (w.enabled && nat_lt 0 size) as P [
-      | true ↦ λ e. block_added words w.used w.blocks w.tasks rest (place (ltb-true 0 size (and_parts w.enabled (nat_lt 0 size) e).1)) apart p
-      | false ↦ λ e. p
-    ] refl
-
 part_placed : (words : ℕ) (w : World) (a size : ℕ) (b : Block) → list_any (is_boot_with a) w.used ≡ true → block_with w.blocks a ≡ Some b → a + size ≤ b.start + b.size → (i : ℕ) × (a ≡ base + 8 * i) → Words size → PlacedIn words w
     → PlacedIn words (world_without_part w a size (Some b))
 part_placed words w a size b boot found end word whole p =
@@ -281,9 +247,9 @@ part_placed words w a size b boot found end word whole p =
       inl_or_boot is_boot_x,
       (place.6.0, words_between base place.6.0.0 word.0 b.start a place.6.0.1 word.1 some),
     ) in
-    let p2 : PlacedIn words middle = rest_placed words left b b.start (a - b.start) first_in first_apart p1 in
+    let p2 : PlacedIn words middle = added_placed words (left.enabled && nat_lt 0 (a - b.start)) left first (λ e. first_in (some_of left.enabled (a - b.start) e)) first_apart p1 in
     let last_apart : Each (λ c. BlocksApart c last) middle.blocks =
-    rest_each (λ c. BlocksApart c last) left b b.start (a - b.start)
+    added_each (λ c. BlocksApart c last) (left.enabled && nat_lt 0 (a - b.start)) left first
     (in_each (λ c. BlocksApart c last) left.blocks (λ c i. part_of c (a + size) (b.start + b.size - (a + size)) (each_in (λ c. BlocksApart c b) left.blocks c others i) (omega (arith, low)) (omega (arith, end))))
     (inl (omega (arith, low))) in
     let part_end : a + size ≡ base + 8 * (word.0 + suc whole.0) = end_word base word.0 whole.0 a size word.1 whole.1 in
@@ -297,7 +263,11 @@ part_placed words w a size b boot found end word whole p =
       inl_or_boot is_boot_x,
       ((word.0 + suc whole.0, part_end), words_between base (word.0 + suc whole.0) (place.6.0.0 + suc place.6.1.0) (a + size) (b.start + b.size) part_end block_end some),
     ) in
-    rest_placed words middle b (a + size) (b.start + b.size - (a + size)) (λ some. subst (λ u. BlockPlaced u last) (sym (rest_used left b b.start (a - b.start))) (last_in some)) last_apart p2 where
+    added_placed words (middle.enabled && nat_lt 0 (b.start + b.size - (a + size))) middle last
+    (λ e. subst (λ u. BlockPlaced u last) (sym (added_used (left.enabled && nat_lt 0 (a - b.start)) left first)) (last_in (some_of middle.enabled (b.start + b.size - (a + size)) e))) last_apart p2 where
+      some_of : (q : Bool) (n : ℕ) → (q && nat_lt 0 n) ≡ true → 0 < n
+      some_of q n e = ltb-true 0 n (and_parts q (nat_lt 0 n) e).1
+
       inl_or_boot : {P Q : Type 0} → Q → P ⊎ Q
       inl_or_boot q = inr q
 

@@ -4,10 +4,11 @@ use Rattle.std.specs.List.{list_any, cons_option}
 use Rattle.std.proofs.lemmas.Bool.{and_parts, and_from, not-true, lt-leb, or_cases, and_right}
 use Rattle.km_laws.proofs.Lists.{In, each_in, find_in, count, count_le, count_more, total_le_in, sum_by-total, in_filter, any_in}
 use Rattle.km_laws.specs.Left.{total}
-use Rattle.km_model.proofs.Cases.{elim_false}
+use Rattle.km_model.proofs.Cases.{elim_false, some_same}
 use Rattle.km_laws.proofs.Hits.{is_early, early, hits}
 use Rattle.km_laws.proofs.Counts.{IdsRise, into, into_head, passes_on, passed}
 use Rattle.km_laws.proofs.Invariants.{Inv, WasLoaded, queue, init_of}
+use Rattle.km_laws.specs.Placed.{WholeWords}
 use Rattle.km_laws.specs.Soundness.{IsValueAt}
 use Rattle.km_model.specs.Memory.{base, words_from}
 use Rattle.km_model.specs.Blocks.{Block, Minimum, Black, AtLeast, block_of, needs, option_is, scanned_words, is_scanned, is_black, is_within, points_into, references_of, words_of, is_among}
@@ -86,16 +87,12 @@ filter_steady r test a (Some v ∷ os) = go (filter_steady r test (a + 8) os) (t
     go rest true false e = rw e rest
     go rest false y e = rest
 
--- a block's words begin at words of the memory
-abbrev pub IsAligned : ℕ → ℕ → ℕ → Type 0
-IsAligned z start size = (i : ℕ) × (j : ℕ) × (start ≡ z + 8 * i) × (size ≡ 8 * j)
-
-within_words : (z start size n w : ℕ) → IsAligned z start size → size ≡ 8 * n → (i : ℕ) × (w ≡ z + 8 * i) → is_within start size w ≡ true → In w (words_from n start)
+within_words : (z start size n w : ℕ) → (i : ℕ) × (start ≡ z + 8 * i) → size ≡ 8 * n → (i : ℕ) × (w ≡ z + 8 * i) → is_within start size w ≡ true → In w (words_from n start)
 within_words z start size n w aligned e word within =
     let parts = and_parts (leb start w) (ltb w (start + size)) within in
     let above : start ≤ w = leb-true start w parts.0 in
     let below : w < start + size = ltb-true w (start + size) parts.1 in
-    let a : start ≡ z + 8 * aligned.0 = aligned.2 in
+    let a : start ≡ z + 8 * aligned.0 = aligned.1 in
     let b : w ≡ z + 8 * word.0 = word.1 in
     let same : start + 8 * (word.0 - aligned.0) ≡ w = omega (arith, a, b, above) in
     let less : word.0 - aligned.0 < n = omega (arith, a, b, above, below, e) in
@@ -104,10 +101,10 @@ within_words z start size n w aligned e word within =
 scanned_within : (b : Block) (w : ℕ) → is_scanned b w ≡ true → is_within b.start b.size w ≡ true
 scanned_within b w e = (and_parts (not (is_black b || b.no_scan)) (is_within b.start b.size w) (and_parts (not (is_black b || b.no_scan) && is_within b.start b.size w) _ e).0).1
 
-scanned_word : (z : ℕ) (b : Block) (w : ℕ) → IsAligned z b.start b.size → (i : ℕ) × (w ≡ z + 8 * i) → is_scanned b w ≡ true → In w (scanned_words b)
-scanned_word z b w aligned word e =
+scanned_word : (b : Block) (w : ℕ) → WholeWords b.start b.size → (i : ℕ) × (w ≡ base + 8 * i) → is_scanned b w ≡ true → In w (scanned_words b)
+scanned_word b w whole word e =
     in_filter (is_scanned b) (words_of b) w
-    (within_words z b.start b.size (b.size / 8) w aligned (let size : b.size ≡ 8 * aligned.1 = aligned.3 in omega (arith, size)) word (scanned_within b w e)) e
+    (within_words base b.start b.size (b.size / 8) w whole.0 (let size : b.size ≡ 8 * suc whole.1.0 = whole.1.1 in omega (arith, size)) word (scanned_within b w e)) e
 
 -- what is among the blocks that are found is found
 member_of : (find_one : ℕ → Option Block) (ids : List ℕ) (x : Block) → In x (filter_map find_one ids) → (id : ℕ) × In id ids × (find_one id ≡ Some x)
@@ -143,17 +140,14 @@ module _ (past : Past) (s : Standing) (Stands : Block → Type 0) (Lives : ℕ �
     (stacks : (n start a : ℕ) → Lives n start → In a (words_from 512 start) → WasLoaded 1 n a (loads past))
     (stand : (b : Block) → In b s.blocks → Stands b) (rise : IdsRise s.blocks)
     (live : (t : Task) → In t s.stacks → Lives t.number t.stack)
-    (blocks_aligned : (b : Block) → In b s.blocks → IsAligned base b.start b.size)
-    (stacks_aligned : (t : Task) → In t s.stacks → IsAligned base t.stack 4096)
+    (blocks_whole : (b : Block) → In b s.blocks → WholeWords b.start b.size)
+    (stacks_whole : (t : Task) → In t s.stacks → WholeWords t.stack 4096)
     (steady : (w u : ℕ) → IsValueAt base s.steady w u → (l : ScanLoad) → In l (early (loads past)) → l.place.word ≡ w → l.value ≡ u) where
   abbrev E : List ScanLoad
   E = early (loads past)
 
-  some_same_block : (b c : Block) → Some b ≡ Some c → b ≡ c
-  some_same_block b c e = cc
-
   same_id : (x b : Block) → In x s.blocks → In b s.blocks → x.id ≡ b.id → x ≡ b
-  same_id x b i j e = some_same_block x b (sym (id_found s.blocks x rise i) ∙ (ap (block_of s.blocks) e ∙ id_found s.blocks b rise j))
+  same_id x b i j e = some_same x b (sym (id_found s.blocks x rise i) ∙ (ap (block_of s.blocks) e ∙ id_found s.blocks b rise j))
 
   -- the holder of a word outside a block is another
   other_holder : (x b : Block) (w : ℕ) (l : ScanLoad) → In x s.blocks → In b s.blocks → is_scanned x w ≡ true → is_within b.start b.size w ≡ false
@@ -181,13 +175,13 @@ module _ (past : Past) (s : Standing) (Stands : Block → Type 0) (Lives : ℕ �
             let x = any_in (λ (y : Block). is_scanned y w) holders held in
             let good = enough x.0 x.1 in
             let queued : In (x.0).id (queue (init_of past) (loads past)) = v.ripe x.0 good.1.0 (stand x.0 good.0) good.1.1 good.1.2 in
-            let word : In w (scanned_words x.0) = scanned_word base x.0 w (blocks_aligned x.0 good.0) (value_word base s.steady w u value) x.2 in
+            let word : In w (scanned_words x.0) = scanned_word x.0 w (blocks_whole x.0 good.0) (value_word base s.steady w u value) x.2 in
             let l = content x.0 w (stand x.0 good.0) queued word in
             let inside : In l.0 E = in_early l.0 l.1 (omega (arith, l.2)) in
             (l.0, inside, shown l.0 (steady w u value l.0 inside l.4) points.0 (other_holder x.0 a w l.0 good.0 i x.2 out_a l.3) (other_holder x.0 b w l.0 good.0 j x.2 out l.3), l.4)
         | inr stacked ↦
             let t = any_in (in_stack w) s.stacks stacked in
-            let word : In w (words_from 512 (t.0).stack) = within_words base (t.0).stack 4096 512 w (stacks_aligned t.0 t.1) refl (value_word base s.steady w u value) t.2 in
+            let word : In w (words_from 512 (t.0).stack) = within_words base (t.0).stack 4096 512 w (stacks_whole t.0 t.1).0 refl (value_word base s.steady w u value) t.2 in
             let l = stacks (t.0).number (t.0).stack w (live t.0 t.1) word in
             let inside : In l.0 E = in_early l.0 l.1 (omega (arith, l.2)) in
             (l.0, inside, shown l.0 (steady w u value l.0 inside l.4) points.0 (no_holder l.0 a l.2) (no_holder l.0 b l.2), l.4)
@@ -270,7 +264,7 @@ module _ (past : Past) (s : Standing) (Stands : Block → Type 0) (Lives : ℕ �
           let black : is_black c ≡ false = not-true (is_black c) (and_parts (not (is_black c)) (not (is_among k ids)) parts.0).0 in
           let inside : In c s.blocks = (find_in (λ (x : Block). x.id == k) s.blocks c f).1 in
           let enough : IsEnough E c = supported_enough (members s ids) c inside (λ x j. let m = member_of (block_of s.blocks) ids x j in rest m.0 x m.1 m.2) black parts.1 in
-          let is : c ≡ b = some_same_block c b (sym f ∙ (ap (block_of s.blocks) same ∙ found)) in
+          let is : c ≡ b = some_same c b (sym f ∙ (ap (block_of s.blocks) same ∙ found)) in
           (subst (λ x. In x s.blocks) is inside, subst (λ x. IsEnough E x) is enough)
 
       go : ((j : ℕ) (x : Block) → In j ids → block_of s.blocks j ≡ Some x → In x s.blocks × IsEnough E x) → In id (k ∷ ids) → In b s.blocks × IsEnough E b

@@ -1,10 +1,10 @@
 use Rattle.std.proofs.Common.{◌≡◌, ℕ, ◌≤◌, ◌<◌, inl, inr, Bool, true, false, List, [], ◌∷◌, length, Option, Some, None, filter, refl, sym, ◌∙◌, ap, subst, eq-eqb, leb-true, if◌then◌else◌}
 use Rattle.std.specs.List.{list_all}
+use Rattle.km_laws.specs.Placed.{WholeWords}
 use Rattle.km_laws.specs.Soundness.{IsValueAt, AreFound, standing_with}
 use Rattle.km_laws.proofs.Since.{IsAnswered}
 use Rattle.km_laws.proofs.Lists.{In, filter_in, pairs_filter}
 use Rattle.km_laws.proofs.Hits.{is_early, early}
-use Rattle.km_laws.proofs.Certificates.{IsAligned}
 use Rattle.km_laws.proofs.Seen.{IsMade, IsSeen, white_not_held}
 use Rattle.km_laws.proofs.Completions.{completed_by}
 use Rattle.km_laws.proofs.Stand.{ids_found, block_stands, task_lives}
@@ -40,8 +40,8 @@ found_value values ls found w u at l i e =
 
 -- what stands at the moments since the begin of a running scan is seen by its loads
 pub seen : (words : ℕ) (h : History) (k : ℕ) (values : List (Option ℕ)) → IsAnswered words h → running_scan (past_of h) ≡ Some k
-    → ((b : Block) → In b (world (past_of h)).blocks → IsAligned base b.start b.size)
-    → ((t : Task) → In t (world (past_of h)).tasks → IsAligned base t.stack 4096)
+    → ((b : Block) → In b (world (past_of h)).blocks → WholeWords b.start b.size)
+    → ((t : Task) → In t (world (past_of h)).tasks → WholeWords t.stack 4096)
     → AreFound values (loads (past_of h))
     → IsSeen (past_of h) (standing_with values (past_of h ∷ since_begin (past_of h)))
 seen words h k values follows run blocks tasks found = record {
@@ -49,8 +49,8 @@ seen words h k values follows run blocks tasks found = record {
       block_stands h k b run (ids_found h b there.1) there.0;
   rise = pairs_filter (λ (b c : Block). b.id < c.id) (λ c. list_all (stands_at c) (since_begin (past_of h))) (world (past_of h)).blocks (names_rise h).ids;
   live = λ t i. let there = task_there (world (past_of h)).stacks refl t i in task_lives words h k t follows run there.1 there.0 there.2;
-  blocks_aligned = λ b i. blocks b (filter_in (λ c. list_all (stands_at c) (since_begin (past_of h))) (world (past_of h)).blocks b i).1;
-  stacks_aligned = λ t i. tasks t (task_there (world (past_of h)).stacks refl t i).1;
+  blocks_whole = λ b i. blocks b (filter_in (λ c. list_all (stands_at c) (since_begin (past_of h))) (world (past_of h)).blocks b i).1;
+  stacks_whole = λ t i. tasks t (task_there (world (past_of h)).stacks refl t i).1;
   steady = found_value values (loads (past_of h)) found;
 }
   where
@@ -83,19 +83,19 @@ pub at_completion : (words : ℕ) (h : History) (act : Act) (given : Answer) (va
     → given ≡ answer words (past_of h) act value → completes given ≡ true
     → ((k n : ℕ) → running_scan (past_of h) ≡ Some k → next (past_of h) ≡ None → P (moment (past_of h) Step (Ended (scans (past_of h)) n) ∷ past_of h))
     → P (end_of (scans (past_of h)) (moment (past_of h) act given ∷ past_of h))
-at_completion words h Step given value P is done shown =
-    let how = completed_by words (past_of h) Step value (subst (λ a. completes a ≡ true) is done) in
-    let ended : given ≡ Ended (scans (past_of h)) (length (new_blocks (past_of h))) = is ∙ last_answer words (past_of h) value how.0.0 how.0.1 how.1 in
-    subst (λ a. P (end_of (scans (past_of h)) (moment (past_of h) Step a ∷ past_of h))) (sym ended)
-    (subst P (sym (end_is h (length (new_blocks (past_of h))))) (shown how.0.0 (length (new_blocks (past_of h))) how.0.1 how.1))
 at_completion words h act given value P is done shown =
-    absurd (completed_by words (past_of h) act value (subst (λ a. completes a ≡ true) is done))
+    let how = completed_by words (past_of h) act value (subst (λ a. completes a ≡ true) is done) in
+    let ended : given ≡ Ended (scans (past_of h)) (length (new_blocks (past_of h))) =
+    subst (λ (x : Act). given ≡ answer words (past_of h) x value) how.0 is ∙ last_answer words (past_of h) value how.1.0 how.1.1 how.2 in
+    subst (λ (x : Act). P (end_of (scans (past_of h)) (moment (past_of h) x given ∷ past_of h))) (sym how.0)
+    (subst (λ a. P (end_of (scans (past_of h)) (moment (past_of h) Step a ∷ past_of h))) (sym ended)
+    (subst P (sym (end_is h (length (new_blocks (past_of h))))) (shown how.1.0 (length (new_blocks (past_of h))) how.1.1 how.2)))
 
 -- the law, of worlds in order
 pub white_by_loads : (words : ℕ) (e : Event) (h : History) (values : List (Option ℕ)) (id : ℕ) (b : Block)
     → IsMade (past_of h)
-    → ((c : Block) → In c (world (past_of h)).blocks → IsAligned base c.start c.size)
-    → ((t : Task) → In t (world (past_of h)).tasks → IsAligned base t.stack 4096)
+    → ((c : Block) → In c (world (past_of h)).blocks → WholeWords c.start c.size)
+    → ((t : Task) → In t (world (past_of h)).tasks → WholeWords t.stack 4096)
     → IsAnswered words (e ∷ h) → completes e.answer ≡ true
     → AreFound values (loads (past_of h)) → block_of (world (past_of h)).blocks id ≡ Some b → is_white (past_of h) b ≡ true
     → IsHeld (standing_with values (moments_of (scans (past_of h)) (past_of (e ∷ h)))) id → ⊥

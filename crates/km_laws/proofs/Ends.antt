@@ -19,7 +19,7 @@ use Rattle.km_model.specs.Headline.{is_scan_load}
 use Rattle.km_model.proofs.Cases.{elim_false, none_some, some_same}
 use Rattle.km_laws.specs.Left.{left_of, left, block_left, task_left, remaining, made}
 use Rattle.km_laws.proofs.Lists.{total_filter, total_map}
-use Rattle.km_laws.proofs.Worlds.{Closed, Tame, event_keeps}
+use Rattle.km_model.proofs.Worlds.{Closed, Tame, event_keeps}
 use Rattle.km_laws.proofs.Falls.{load_falls}
 use Rattle.km_laws.proofs.Steps.{Fits, fits, next_good}
 

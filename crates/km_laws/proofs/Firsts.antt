@@ -1,7 +1,7 @@
 use Rattle.std.proofs.Common.{◌≡◌, ℕ, ◌≤◌, ◌<◌, ◌==◌, ◌⊎◌, inl, inr, true, false, cond, ltb, List, [], ◌∷◌, Some, None, find, refl, sym, ◌∙◌, subst, arith, lt-ltb, eq-eqb}
 use Rattle.km_laws.proofs.Lists.{In, Pairs, each_in}
 use Rattle.km_model.proofs.Cases.{elim_false, none_some}
-use Rattle.km_laws.proofs.Places.{none_place, or_else_some, or_else_none, place_in_is, place_in_none}
+use Rattle.km_model.proofs.Places.{or_else_some, or_else_none, place_in_is, place_in_none}
 use Rattle.km_model.specs.Blocks.{Block}
 use Rattle.km_model.specs.Past.{Place}
 use Rattle.km_model.specs.Scan.{behind, place_in, word_above, first_word, live_words, first_in}
@@ -51,7 +51,7 @@ pub record FirstIn (phase : ℕ) (blocks : List Block) (q : List ℕ) (p : Place
   pub others : (id a : ℕ) → In id q → In a (live_words blocks id) → (p.holder ≡ id) ⊎ In id (behind p.holder q)
 
 pub first_in_some : (phase : ℕ) (blocks : List Block) (q : List ℕ) (p : Place) → first_in phase blocks q ≡ Some p → FirstIn phase blocks q p
-first_in_some phase blocks [] p e = absurd (none_place p e)
+first_in_some phase blocks [] p e = absurd (none_some p e)
 first_in_some phase blocks (y ∷ q) p e =
     elim (or_else_some (place_in phase y (first_word (live_words blocks y))) (first_in phase blocks q) p e) [
       | inl here ↦ let parts = place_in_is phase y (first_word (live_words blocks y)) p here in

@@ -1,8 +1,8 @@
 use Rattle.std.proofs.Common.{◌≡◌, ℕ, ◌≤◌, ◌<◌, ◌==◌, inl, inr, Bool, true, false, ◌&&◌, ◌||◌, not, leb, ltb, List, [], ◌∷◌, Option, Some, None, filter, refl, sym, ◌∙◌, ap, subst, arith, eqb-true, ltb-true, lt-ltb, eq-eqb, le-leb, if◌then◌else◌}
 use Rattle.std.proofs.lemmas.Bool.{and_parts, and_from}
 use Rattle.km_laws.proofs.Lists.{In, count, count_by-count, count_filter}
-use Rattle.km_model.proofs.Cases.{elim_false}
-use Rattle.km_laws.proofs.Whites.{hit_live}
+use Rattle.km_model.proofs.Cases.{elim_false, some_same}
+use Rattle.km_model.proofs.Whites.{hit_live}
 use Rattle.km_model.specs.Blocks.{Block, Minimum, Black, AtLeast, is_black, points_into, block_of, block_at, pointed_block, option_is}
 use Rattle.km_model.specs.Past.{Past, Place, ScanLoad, world, loads}
 use Rattle.km_model.specs.Scan.{tally, was_changed, changed_in, is_white, is_holder, hit_white, hit_block, hit_of, excess_block}
@@ -59,15 +59,12 @@ pub record IsApart (blocks : List Block) : Type 0 where
   pub bytes : (v : ℕ) (b : Block) → In b blocks → points_into v b ≡ true → pointed_block blocks v ≡ Some b
   pub starts : (b : Block) → In b blocks → block_at blocks b.start ≡ Some b
 
-pub some_block : (b c : Block) → Some b ≡ Some c → b ≡ c
-some_block b c e = cc
-
 pub same_block : (blocks : List Block) (b c : Block) → IsApart blocks → In b blocks → In c blocks → b.id ≡ c.id → b ≡ c
 same_block blocks b c apart i j e =
-    some_block b c (sym (apart.ids b i) ∙ (ap (block_of blocks) e ∙ apart.ids c j))
+    some_same b c (sym (apart.ids b i) ∙ (ap (block_of blocks) e ∙ apart.ids c j))
 
 pub same_pointed : (blocks : List Block) (v : ℕ) (b c : Block) → IsApart blocks → In b blocks → In c blocks → points_into v b ≡ true → points_into v c ≡ true → b ≡ c
-same_pointed blocks v b c apart i j p q = some_block b c (sym (apart.bytes v b i p) ∙ apart.bytes v c j q)
+same_pointed blocks v b c apart i j p q = some_same b c (sym (apart.bytes v b i p) ∙ apart.bytes v c j q)
 
 -- a pointer into a white block hits it
 pub hit_into : (past : Past) (place : Place) (value : ℕ) (b : Block)

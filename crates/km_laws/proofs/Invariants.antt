@@ -1,9 +1,9 @@
-use Rattle.std.proofs.Common.{◌≡◌, ℕ, ◌+◌, ◌≤◌, ◌<◌, ◌==◌, ◌⊎◌, inl, inr, Bool, true, false, ◌&&◌, ◌||◌, cond, List, [], ◌∷◌, ◌++◌, Option, Some, None, filter, map, refl, sym, ◌∙◌, ap, subst, arith, eq-eqb, ne_eqb, if◌then◌else◌, append-nil, append_assoc}
+use Rattle.std.proofs.Common.{◌≡◌, ℕ, ◌+◌, ◌≤◌, ◌<◌, ◌==◌, ◌⊎◌, inl, inr, Bool, true, false, ◌&&◌, ◌||◌, cond, List, [], ◌∷◌, ◌++◌, Option, Some, None, filter, map, refl, sym, ◌∙◌, ap, subst, arith, eq-eqb, ne_eqb, if◌then◌else◌, append_assoc}
 use Rattle.std.proofs.lemmas.Bool.{cases_lt, lt-leb}
 use Rattle.km_laws.proofs.Lists.{In, find_in, in_append_left, in_append_right, in_append_cases}
-use Rattle.km_model.proofs.Cases.{elim_false}
 use Rattle.km_laws.proofs.Queues.{behind_grows, behind_end}
-use Rattle.km_laws.proofs.Places.{stack_is}
+use Rattle.km_model.proofs.Ripe.{more_of, ripe_here, ripe_there}
+use Rattle.km_model.proofs.Places.{newest, stack_is}
 use Rattle.km_laws.proofs.Hits.{early, hits, IsPure, early_pure, tally_hits, IsApart, option_here}
 use Rattle.km_laws.proofs.Counts.{IsCounted, counted_none, counted_fewer, counted_more}
 use Rattle.km_laws.proofs.Next.{IsWaiting, IsReached, HolderQueued, GreyNext, grey_some, grey_none, IsStackWaiting, IsStackReached, TasksRise, stack_some, stack_none, StacksOver, QueueOver, in_stacks, in_queue, later, next_some}
@@ -15,10 +15,6 @@ use Rattle.km_model.specs.Scan.{ripe_in, phase_of, stack_of, stack_next, live_wo
 -- the blocks that needed no reference at the begin
 abbrev pub init_of : Past → List ℕ
 init_of past = map (λ (b : Block). b.id) (filter (needs 0) (world (at_begin past)).blocks)
-
--- the newest load
-abbrev pub last_of : List ScanLoad → Option ScanLoad
-last_of ls = elim ls [ [] ↦ None | l ∷ _ ↦ Some l ]
 
 -- the first queue, by what it begins with
 abbrev pub queue : List ℕ → List ScanLoad → List ℕ
@@ -33,14 +29,14 @@ loaded_more phase holder a l ls w = (w.0, inr w.1, w.2, w.3, w.4)
 
 -- what holds at each moment of a scan, of the blocks and tasks that stand since its begin
 pub record Inv (Stands : Block → Type 0) (Lives : ℕ → ℕ → Type 0) (init : List ℕ) (ls : List ScanLoad) : Type 0 where
-  pub pure : phase_of (last_of ls) ≤ 2 → IsPure ls
-  pub queued : HolderQueued (queue init ls) (last_of ls)
+  pub pure : phase_of (newest ls) ≤ 2 → IsPure ls
+  pub queued : HolderQueued (queue init ls) (newest ls)
   pub counted : IsCounted Stands (early ls)
   pub ripe : (b : Block) (m : ℕ) → Stands b → b.minimum ≡ AtLeast m → m ≤ hits b.id (early ls) → In b.id (queue init ls)
   pub content : (b : Block) (a : ℕ) → Stands b → In b.id (queue init ls) → In a (scanned_words b)
-      → WasLoaded 2 b.id a ls ⊎ IsWaiting (queue init ls) (last_of ls) b.id a
+      → WasLoaded 2 b.id a ls ⊎ IsWaiting (queue init ls) (newest ls) b.id a
   pub stacks : (n start a : ℕ) → Lives n start → In a (words_from 512 start)
-      → WasLoaded 1 n a ls ⊎ IsStackWaiting (last_of ls) n a
+      → WasLoaded 1 n a ls ⊎ IsStackWaiting (newest ls) n a
 
 -- at the begin
 pub inv_begin : (Stands : Block → Type 0) (Lives : ℕ → ℕ → Type 0) (init : List ℕ)
@@ -67,32 +63,16 @@ inv_fewer Stands Fewer Lives Less init ls weaker lesser v = record {
   stacks = λ n start a s i. v.stacks n start a (lesser n start s) i;
 }
 
--- what a load appends to the first queue
-abbrev pub more_of : Option ℕ → List ℕ
-more_of None = []
-more_of (Some id) = id ∷ []
-
+-- whether a phase is one whose ripe blocks come to the first queue
 abbrev is_first : ℕ → Bool
 is_first phase = (phase == 1) || (phase == 2)
 
-ripe_first : (o : Option ℕ) (q : Bool) (earlier : List ℕ) → q ≡ true
-    → (elim o as (λ _. List ℕ) [ None ↦ earlier | Some id ↦ if q then earlier ++ id ∷ [] else earlier ]) ≡ earlier ++ more_of o
-ripe_first None q earlier e = sym (append-nil earlier)
-ripe_first (Some id) true earlier e = refl
-ripe_first (Some id) false earlier e = absurd (elim_false e)
-
-ripe_late : (o : Option ℕ) (q : Bool) (earlier : List ℕ) → q ≡ false
-    → (elim o as (λ _. List ℕ) [ None ↦ earlier | Some id ↦ if q then earlier ++ id ∷ [] else earlier ]) ≡ earlier
-ripe_late None q earlier e = refl
-ripe_late (Some id) true earlier e = absurd (elim_false (sym e))
-ripe_late (Some id) false earlier e = refl
-
 pub queue_first : (init : List ℕ) (l : ScanLoad) (ls : List ScanLoad) → is_first l.place.phase ≡ true → queue init (l ∷ ls) ≡ queue init ls ++ more_of l.ripe
 queue_first init l ls e =
-    ap (λ q. init ++ q) (ripe_first l.ripe (is_first l.place.phase) (ripe_in 1 2 ls) e) ∙ sym (append_assoc init (ripe_in 1 2 ls) (more_of l.ripe))
+    ap (λ q. init ++ q) (ripe_here 1 2 l ls e) ∙ sym (append_assoc init (ripe_in 1 2 ls) (more_of l.ripe))
 
 pub queue_late : (init : List ℕ) (l : ScanLoad) (ls : List ScanLoad) → is_first l.place.phase ≡ false → queue init (l ∷ ls) ≡ queue init ls
-queue_late init l ls e = ap (λ q. init ++ q) (ripe_late l.ripe (is_first l.place.phase) (ripe_in 1 2 ls) e)
+queue_late init l ls e = ap (λ q. init ++ q) (ripe_there 1 2 l ls e)
 
 -- a load
 module _ (past : Past) (place : Place) (value : ℕ) (Stands : Block → Type 0) (Lives : ℕ → ℕ → Type 0)
@@ -136,7 +116,7 @@ module _ (past : Past) (place : Place) (value : ℕ) (Stands : Block → Type 0)
       go (Some b) = rw e refl
 
   -- at a load of the first two phases
-  module _ (first : (place.phase ≡ 1) ⊎ (place.phase ≡ 2)) (before : phase_of (last_of ls) ≤ 2) where
+  module _ (first : (place.phase ≡ 1) ⊎ (place.phase ≡ 2)) (before : phase_of (newest ls) ≤ 2) where
     not_sum : (place.phase == 3) ≡ false
     not_sum = elim first [ inl e ↦ ne_eqb place.phase 3 (λ f. omega (arith, e, f)) | inr e ↦ ne_eqb place.phase 3 (λ f. omega (arith, e, f)) ]
 
@@ -184,9 +164,9 @@ module _ (past : Past) (place : Place) (value : ℕ) (Stands : Block → Type 0)
             subst (λ o. In b.id (more_of o)) (sym ripe) (inl refl)
 
   -- by a load of the first phase
-  inv_stacks : phase_of (last_of ls) ≤ 1 → (world past).stacks ≡ true → stack_next past (last_of ls) ≡ Some place → Inv Stands Lives (init_of past) (l ∷ ls)
+  inv_stacks : phase_of (newest ls) ≤ 1 → (world past).stacks ≡ true → stack_next past (newest ls) ≡ Some place → Inv Stands Lives (init_of past) (l ∷ ls)
   inv_stacks before on e =
-      let one : place.phase ≡ 1 = (stack_is past (last_of ls) place e).0 in
+      let one : place.phase ≡ 1 = (stack_is past (newest ls) place e).0 in
       record {
         pure = λ _. pure_first (inl one) (omega (arith, before));
         queued = λ two. absurd (omega (arith, one, two));
@@ -195,7 +175,7 @@ module _ (past : Past) (place : Place) (value : ℕ) (Stands : Block → Type 0)
         content = λ b a s i j. inr (inl (omega (arith, one)));
         stacks = λ n start a s i. elim (old.stacks n start a s i) [
           | inl w ↦ inl (loaded_more 1 n a l ls w)
-          | inr waits ↦ reach n a one (stack_some past (last_of ls) place rise e n a (subst (λ ws. In a ws) (sym (live n start s).0) i) waits)
+          | inr waits ↦ reach n a one (stack_some past (newest ls) place rise e n a (subst (λ ws. In a ws) (sym (live n start s).0) i) waits)
         ];
       }
     where
@@ -207,11 +187,11 @@ module _ (past : Past) (place : Place) (value : ℕ) (Stands : Block → Type 0)
       ]
 
   -- where the first phase is over, its words are loaded
-  pub stacks_over : StacksOver past (last_of ls) → (n start a : ℕ) → Lives n start → In a (words_from 512 start) → WasLoaded 1 n a ls
+  pub stacks_over : StacksOver past (newest ls) → (n start a : ℕ) → Lives n start → In a (words_from 512 start) → WasLoaded 1 n a ls
   stacks_over over n start a s i =
       elim (old.stacks n start a s i) [
         | inl w ↦ w
-        | inr waits ↦ absurd (stack_none past (last_of ls) n a (over (early_phase (last_of ls) waits) (live n start s).1) (subst (λ ws. In a ws) (sym (live n start s).0) i) waits)
+        | inr waits ↦ absurd (stack_none past (newest ls) n a (over (early_phase (newest ls) waits) (live n start s).1) (subst (λ ws. In a ws) (sym (live n start s).0) i) waits)
       ]
     where
       early_phase : (o : Option ScanLoad) → IsStackWaiting o n a → phase_of o ≤ 1
@@ -219,11 +199,11 @@ module _ (past : Past) (place : Place) (value : ℕ) (Stands : Block → Type 0)
       early_phase (Some k) w = w.0
 
   -- where the second phase is over, the scanned words of what is queued are loaded
-  pub content_over : QueueOver past (last_of ls) → (b : Block) (a : ℕ) → Stands b → In b.id q → In a (scanned_words b) → WasLoaded 2 b.id a ls
+  pub content_over : QueueOver past (newest ls) → (b : Block) (a : ℕ) → Stands b → In b.id q → In a (scanned_words b) → WasLoaded 2 b.id a ls
   content_over over b a s i j =
       elim (old.content b a s i j) [
         | inl w ↦ w
-        | inr waits ↦ absurd (grey_none past q (last_of ls) b.id a (over (early_phase (last_of ls) waits)) i (in_words b a s j) waits)
+        | inr waits ↦ absurd (grey_none past q (newest ls) b.id a (over (early_phase (newest ls) waits)) i (in_words b a s j) waits)
       ]
     where
       early_phase : (o : Option ScanLoad) → IsWaiting q o b.id a → phase_of o ≤ 2
@@ -231,7 +211,7 @@ module _ (past : Past) (place : Place) (value : ℕ) (Stands : Block → Type 0)
       early_phase (Some k) w = elim w [ inl one ↦ omega (arith, one) | inr two ↦ omega (arith, two.0) ]
 
   -- by a load of the second phase
-  inv_queue : StacksOver past (last_of ls) → phase_of (last_of ls) ≤ 2 → GreyNext (world past).blocks q place (last_of ls) → Inv Stands Lives (init_of past) (l ∷ ls)
+  inv_queue : StacksOver past (newest ls) → phase_of (newest ls) ≤ 2 → GreyNext (world past).blocks q place (newest ls) → Inv Stands Lives (init_of past) (l ∷ ls)
   inv_queue over before grey =
       let two : place.phase ≡ 2 = grey.phase_is in
       record {
@@ -257,7 +237,7 @@ module _ (past : Past) (place : Place) (value : ℕ) (Stands : Block → Type 0)
       reach b a two e (inr further) = inr (inr (two, inr (subst (λ x. In b.id (behind place.holder x)) (sym e) (behind_grows q (more_of l.ripe) place.holder b.id further))))
 
   -- by a later load
-  inv_later : StacksOver past (last_of ls) → QueueOver past (last_of ls) → 3 ≤ place.phase → Inv Stands Lives (init_of past) (l ∷ ls)
+  inv_later : StacksOver past (newest ls) → QueueOver past (newest ls) → 3 ≤ place.phase → Inv Stands Lives (init_of past) (l ∷ ls)
   inv_later over empty late =
       let same : early (l ∷ ls) ≡ early ls = rw (lt-leb place.phase 2 (omega (arith, late))) refl in
       let same_queue : q' ≡ q = queue_late (init_of past) l ls (is_late_phase place.phase late) in
@@ -271,10 +251,10 @@ module _ (past : Past) (place : Place) (value : ℕ) (Stands : Block → Type 0)
       }
 
   -- by the next load
-  pub inv_load : next_after past (last_of ls) ≡ Some place → Inv Stands Lives (init_of past) (l ∷ ls)
+  pub inv_load : next_after past (newest ls) ≡ Some place → Inv Stands Lives (init_of past) (l ∷ ls)
   inv_load e =
-      elim (next_some past (last_of ls) place e) [
+      elim (next_some past (newest ls) place e) [
         | in_stacks before on f ↦ inv_stacks before on f
-        | in_queue over before f ↦ inv_queue over before (grey_some past q place (last_of ls) old.queued f)
+        | in_queue over before f ↦ inv_queue over before (grey_some past q place (newest ls) old.queued f)
         | later over empty late ↦ inv_later over empty late
       ]

@@ -1,6 +1,6 @@
 use Rattle.std.proofs.Common.{◌≡◌, ℕ, ◌+◌, ◌*◌, ◌≤◌, ◌<◌, ◌-◌, ◌==◌, ◌⊎◌, inl, inr, Bool, true, false, ◌&&◌, not, nat_lt, List, [], ◌∷◌, ◌++◌, Option, Some, None, is_some, refl, sym, ◌∙◌, ap, subst, arith, if◌then◌else◌}
 use Rattle.km_laws.proofs.Lists.{In, filter_in, in_push_cases, in_map}
-use Rattle.km_laws.proofs.Worlds.{Tame, Closed, Of, event_keeps}
+use Rattle.km_model.proofs.Worlds.{Tame, Closed, Of, event_keeps}
 use Rattle.km_model.proofs.Cases.{elim_false}
 use Rattle.km_base.specs.declared.acts.Act.{Act}
 use Rattle.km_base.specs.declared.acts.Act.TheVariants.{Section, TaskExit, Kmalloc, VmTake, VmGive, BootMem, FreePart, File}

@@ -7,8 +7,8 @@ use Rattle.km_model.specs.Scan.{behind, phase_of}
 use Rattle.km_laws.specs.Left.{made}
 use Rattle.km_laws.proofs.Lists.{each_in, In}
 use Rattle.km_laws.proofs.Queues.{in_behind, behind_later}
-use Rattle.km_laws.proofs.Whites.{white_in}
-use Rattle.km_laws.proofs.Places.{Word, StackPlace, GreyPlace, SumFrom}
+use Rattle.km_model.proofs.Whites.{white_in}
+use Rattle.km_model.proofs.Places.{Word, StackPlace, GreyPlace, SumFrom}
 use Rattle.km_laws.proofs.Runs.{newest, Order, HeadBlock, HeadTask, Stands}
 
 -- whether a load goes on with the holder of the last one, in its phase

@@ -1,8 +1,8 @@
 use Rattle.std.proofs.Common.{◌≡◌, ℕ, zero, suc, ◌+◌, ◌/◌, ◌≤◌, ◌<◌, ◌==◌, ◌⊎◌, inl, inr, Bool, true, false, cond, ltb, List, [], ◌∷◌, Option, Some, None, find, filter, refl, sym, ◌∙◌, ap, subst, arith, eqb-true, lt-ltb, le-leb, if◌then◌else◌}
 use Rattle.km_laws.proofs.Lists.{In, Pairs, each_in, each_weaker, pairs_filter}
-use Rattle.km_model.proofs.Cases.{elim_false}
+use Rattle.km_model.proofs.Cases.{elim_false, some_same, none_some}
 use Rattle.km_laws.proofs.Queues.{in_behind, behind_behind}
-use Rattle.km_laws.proofs.Places.{none_place, or_else_some, or_else_none, place_in_is, place_in_none, not_over, if_place, grey_is, sum_is, Word, word_in, words_each, stack_word_in}
+use Rattle.km_model.proofs.Places.{or_else_some, or_else_none, place_in_is, place_in_none, not_over, if_place, grey_is, sum_is, Word, word_in, words_each, stack_word_in}
 use Rattle.km_laws.proofs.Firsts.{Ordered, first_least, above_least, above_none, FirstIn, first_in_some, first_in_none}
 use Rattle.km_model.specs.Memory.{words_from}
 use Rattle.km_model.specs.Blocks.{Block, block_of, words_of, scanned_words, is_scanned}
@@ -141,9 +141,9 @@ abbrev words_in : Option Task → List ℕ
 words_in o = elim o [ None ↦ [] | Some t ↦ stack_words t ]
 
 first_stack_some : (ts : List Task) (p : Place) (n a : ℕ) → TasksRise ts → first_stack ts ≡ Some p → In a (stack_of ts n) → (p.phase ≡ 1) × IsStackReached p n a
-first_stack_some [] p n a r e i = absurd (none_place p e)
+first_stack_some [] p n a r e i = absurd (none_some p e)
 first_stack_some (t ∷ ts) p n a r e i =
-    let same : record { phase = 1; holder = t.number; word = t.stack } ≡ p = some_place _ p e in
+    let same : record { phase = 1; holder = t.number; word = t.stack } ≡ p = some_same _ p e in
     let held : t.number ≡ p.holder = ap (λ (x : Place). x.holder) same in
     let word : t.stack ≡ p.word = ap (λ (x : Place). x.word) same in (
       sym (ap (λ (x : Place). x.phase) same),
@@ -153,13 +153,10 @@ first_stack_some (t ∷ ts) p n a r e i =
             let above : t.number < (owner.0).number = each_in (λ (u : Task). t.number < u.number) ts owner.0 r.0 owner.1 in inl (omega (arith, held, above, owner.2))
       ] refl i,
     )
-  where
-    some_place : (x y : Place) → Some x ≡ Some y → x ≡ y
-    some_place x y f = cc
 
 first_stack_none : (ts : List Task) (n a : ℕ) → first_stack ts ≡ None → In a (stack_of ts n) → ⊥
 first_stack_none [] n a e i = i
-first_stack_none (t ∷ ts) n a e i = none_place _ (sym e)
+first_stack_none (t ∷ ts) n a e i = none_some _ (sym e)
 
 later_stack : (ts : List Task) (h n a : ℕ) → h < n → In a (stack_of ts n) → In a (stack_of (filter (λ (t : Task). ltb h t.number) ts) n)
 later_stack [] h n a lt i = i

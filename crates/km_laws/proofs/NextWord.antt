@@ -11,7 +11,7 @@ use Rattle.km_laws.proofs.Lists.{In, each_in}
 use Rattle.km_laws.proofs.Pages.{Sound}
 use Rattle.km_laws.proofs.Placings.{Placed}
 use Rattle.km_laws.proofs.Apart.{PlacedIn, history_placed}
-use Rattle.km_laws.proofs.Places.{Word, NextPlace, next_is}
+use Rattle.km_model.proofs.Places.{Word, NextPlace, next_is}
 
 -- a word of the memory
 abbrev IsWord : ℕ → ℕ → ℕ → Type 0

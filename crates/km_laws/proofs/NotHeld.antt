@@ -9,7 +9,7 @@ use Rattle.km_laws.proofs.Completions.{is_stop, stopped_scan}
 use Rattle.km_laws.proofs.Stand.{ids_found}
 use Rattle.km_laws.proofs.Completed.{seen, at_completion, white_by_loads}
 use Rattle.km_laws.proofs.Steady.{steady_found}
-use Rattle.km_laws.proofs.Orderly.{made, block_aligned, stack_aligned}
+use Rattle.km_laws.proofs.Orderly.{made, blocks_whole, stacks_whole}
 use Rattle.km_base.specs.declared.acts.Act.TheVariants.{Step}
 use Rattle.km_base.specs.declared.acts.Answer.{Answer}
 use Rattle.km_base.specs.declared.acts.Answer.TheVariants.{Ended, Stopped}
@@ -27,7 +27,7 @@ use Rattle.km_model.specs.Headline.{WhiteAreNotHeld, ListedAreNotHeld}
 pub white_not_held_by_loads : WhiteAreNotHeldByLoads
 white_not_held_by_loads words e h values id b follows done found at white =
     let a = follows_answered words (e ∷ h) follows in
-    white_by_loads words e h values id b (made words h a.1) (block_aligned words h a.1) (stack_aligned words h a.1) a done found at white
+    white_by_loads words e h values id b (made words h a.1) (blocks_whole words h a.1) (stacks_whole words h a.1) a done found at white
 
 -- over a told memory
 not_held : (words : ℕ) (e : Event) (h : History) (id : ℕ) (b : Block) → FollowsMemory words (e ∷ h) → completes e.answer ≡ true
@@ -40,7 +40,7 @@ not_held words e h id b follows done at white =
     (λ k n run none held.
     let p : Past = moment (past_of h) Step (Ended (scans (past_of h)) n) ∷ past_of h in
     white_not_held (past_of h) (standing_through words (p ∷ since_begin (past_of h))) id b (made words h a)
-    (seen words h k (steady_words (map (λ (q : Past). memory_after words (history_of q)) (p ∷ since_begin (past_of h)))) a run (block_aligned words h a) (stack_aligned words h a)
+    (seen words h k (steady_words (map (λ (q : Past). memory_after words (history_of q)) (p ∷ since_begin (past_of h)))) a run (blocks_whole words h a) (stacks_whole words h a)
     (steady_found words h p follows.1)) none at white held)
 
 pub white_are_not_held : WhiteAreNotHeld

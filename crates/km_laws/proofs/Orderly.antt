@@ -1,4 +1,4 @@
-use Rattle.std.proofs.Common.{le-leb, lt-ltb, ◌≡◌, ℕ, suc, ◌+◌, ◌<◌, ◌==◌, inl, inr, Bool, true, false, cond, leb, ltb, List, [], ◌∷◌, Some, find, refl, sym, ◌∙◌, ap, subst, arith, eqb-true, eq-eqb}
+use Rattle.std.proofs.Common.{le-leb, lt-ltb, ◌≡◌, ℕ, ◌+◌, ◌<◌, ◌==◌, inl, inr, Bool, true, false, cond, leb, ltb, List, [], ◌∷◌, Some, find, refl, sym, ◌∙◌, ap, subst, arith, eqb-true, eq-eqb}
 use Rattle.std.proofs.lemmas.Bool.{and_from}
 use Rattle.km_laws.specs.Placed.{WholeWords, BlockPlaced, StackPlaced}
 use Rattle.km_laws.proofs.Since.{IsAnswered}
@@ -8,13 +8,11 @@ use Rattle.km_laws.proofs.Placings.{Placed, one_block}
 use Rattle.km_laws.proofs.Apart.{PlacedIn, answered_placed}
 use Rattle.km_laws.proofs.Lists.{In, find_in}
 use Rattle.km_laws.proofs.Hits.{IsApart}
-use Rattle.km_laws.proofs.Certificates.{IsAligned}
 use Rattle.km_laws.proofs.Stand.{ids_found}
 use Rattle.km_laws.proofs.Laws.{names_rise}
 use Rattle.km_laws.proofs.Seen.{IsOrderly, IsMade}
 use Rattle.km_base.specs.Spans.{untagged}
 use Rattle.km_model.specs.History.{History}
-use Rattle.km_model.specs.Memory.{base}
 use Rattle.km_model.specs.Blocks.{Block, block_of, is_within, points_into}
 use Rattle.km_model.specs.Tasks.{Task}
 use Rattle.km_model.specs.Placement.{Allocation}
@@ -64,16 +62,12 @@ pub made : (words : ℕ) (h : History) → IsAnswered words h → IsMade (past_o
 made words [] a = orderly words [] a
 made words (e ∷ h) a = (refl, orderly words (e ∷ h) a, made words h a.1)
 
-aligned : (start size : ℕ) → WholeWords start size → IsAligned base start size
-aligned start size w = (w.0.0, suc w.1.0, w.0.1, w.1.1)
+pub blocks_whole : (words : ℕ) (h : History) → IsAnswered words h → (b : Block) → In b (world (past_of h)).blocks → WholeWords b.start b.size
+blocks_whole words h a b i = block_whole (words + 512) (world (past_of h)).used (world (past_of h)).blocks (world (past_of h)).tasks b (placed words h a) i
 
-pub block_aligned : (words : ℕ) (h : History) → IsAnswered words h → (b : Block) → In b (world (past_of h)).blocks → IsAligned base b.start b.size
-block_aligned words h a b i =
-    aligned b.start b.size (block_whole (words + 512) (world (past_of h)).used (world (past_of h)).blocks (world (past_of h)).tasks b (placed words h a) i)
-
-pub stack_aligned : (words : ℕ) (h : History) → IsAnswered words h → (t : Task) → In t (world (past_of h)).tasks → IsAligned base t.stack 4096
-stack_aligned words h a t i =
+pub stacks_whole : (words : ℕ) (h : History) → IsAnswered words h → (t : Task) → In t (world (past_of h)).tasks → WholeWords t.stack 4096
+stacks_whole words h a t i =
     let p = placed words h a in
     let s = each_in (StackPlaced (world (past_of h)).used) (world (past_of h)).tasks t p.stacks_in i in
     let w = (each_in (Sound (words + 512)) (world (past_of h)).used s.0 p.sound s.1).3 in
-    (w.0.0, 512, sym s.3 ∙ w.0.1, refl)
+    ((w.0.0, sym s.3 ∙ w.0.1), (511, refl))

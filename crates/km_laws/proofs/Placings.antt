@@ -115,15 +115,6 @@ clear_of words used bs ts z b free start size p =
     apart_parts h.0.start h.0.size z.start z.size c.start c.size b.start b.size (beside words used bs ts h.0 z p free h.1)
     h.3 h.4 (omega (arith, start)) (omega (arith, start, size))) bs p.blocks_in
 
--- an allocation is made, with a block at its start
-pub block_allocated : (words : ℕ) (used : List Allocation) (bs : List Block) (ts : List Task) (z : Allocation) (b : Block) → Free words used z → is_tracked z ≡ true → b.start ≡ z.start → b.size ≤ z.size → Words b.size
-    → Placed words used bs ts → Placed words (used ++ z ∷ []) (bs ++ b ∷ []) ts
-block_allocated words used bs ts z b free tracked start size whole p =
-    block_added words (used ++ z ∷ []) bs ts b
-    (z, in_push_right used z, tracked, omega (arith, start), omega (arith, start, size), inl start, ((free.0.3.0.0, start ∙ free.0.3.0.1), whole))
-    (clear_of words used bs ts z b free start size p)
-    (allocated words used bs ts z free p)
-
 -- a task starts
 pub task_added : (words : ℕ) (used : List Allocation) (bs : List Block) (ts : List Task) (z : Allocation) (t : Task) → Free words used z → is_stack z ≡ true → t.stack ≡ z.start → z.size ≡ 4096
     → Placed words used bs ts → Placed words (used ++ z ∷ []) bs (ts ++ t ∷ [])

@@ -1,4 +1,4 @@
-use Rattle.std.proofs.Common.{◌≡◌, ℕ, suc, ◌+◌, ◌*◌, ◌<◌, ◌≤◌, true, false, ◌==◌, List, [], ◌∷◌, Option, Some, None, if◌then◌else◌, refl, sym, subst, arith, ◌⊎◌, inl, inr, eq-eqb, ne_eqb}
+use Rattle.std.proofs.Common.{◌≡◌, ℕ, suc, ◌+◌, ◌*◌, ◌<◌, ◌≤◌, true, false, ◌==◌, List, [], ◌∷◌, if◌then◌else◌, refl, sym, subst, arith, ◌⊎◌, inl, inr, eq-eqb, ne_eqb}
 use Rattle.std.proofs.lemmas.Bool.{and_left, and_right, and_from}
 use Rattle.km_model.specs.Blocks.{Block}
 use Rattle.km_model.specs.Tasks.{Task}
@@ -6,14 +6,10 @@ use Rattle.km_model.specs.Past.{ScanLoad}
 use Rattle.km_model.specs.Scan.{behind, phase_of}
 use Rattle.km_laws.specs.Left.{is_made, made}
 use Rattle.km_laws.proofs.Lists.{Each, each_push, each_filter, each_map, In, Rising, rising_push, rising_filter, rising_map}
-use Rattle.km_laws.proofs.Worlds.{Tame, Closed}
+use Rattle.km_model.proofs.Worlds.{Tame, Closed}
+pub use Rattle.km_model.proofs.Places.{newest}
 use Rattle.km_laws.proofs.Queues.{Distinct}
-use Rattle.km_laws.proofs.Whites.{white_in, grey_tame}
-
--- the newest of these loads
-abbrev pub newest : List ScanLoad → Option ScanLoad
-newest [] = None
-newest (l ∷ _) = Some l
+use Rattle.km_model.proofs.Whites.{white_in, grey_tame}
 
 -- one more load is counted for its phase and holder alone
 pub made_same : (p x : ℕ) (l : ScanLoad) (ls : List ScanLoad) → l.place.phase ≡ p → l.place.holder ≡ x → made p x (l ∷ ls) ≡ suc (made p x ls)

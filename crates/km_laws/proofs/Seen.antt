@@ -1,14 +1,15 @@
 use Rattle.std.proofs.Common.{◌≡◌, ℕ, ◌<◌, ◌==◌, inl, inr, Bool, true, false, ◌&&◌, not, List, [], ◌∷◌, Option, Some, None, filter, map, refl, sym, ◌∙◌, ap, subst, arith, eqb-true, MatchBool}
 use Rattle.std.proofs.lemmas.Bool.{and_parts}
+use Rattle.km_laws.specs.Placed.{WholeWords}
 use Rattle.km_laws.specs.Soundness.{IsValueAt}
 use Rattle.km_laws.proofs.Since.{StandsSince, LivesSince}
 use Rattle.km_laws.proofs.Lists.{In, find_in, in_filter, any_in, map_in}
-use Rattle.km_model.proofs.Cases.{elim_false}
-use Rattle.km_laws.proofs.Hits.{early, hits, IsApart, white_then, some_block}
+use Rattle.km_model.proofs.Cases.{elim_false, none_some, some_same}
+use Rattle.km_laws.proofs.Hits.{early, hits, IsApart, white_then}
 use Rattle.km_laws.proofs.Counts.{IdsRise}
 use Rattle.km_laws.proofs.Next.{TasksRise, next_none}
 use Rattle.km_laws.proofs.Invariants.{Inv, inv_begin, inv_fewer, inv_load, stacks_over, content_over, init_of}
-use Rattle.km_laws.proofs.Certificates.{IsAligned, certified}
+use Rattle.km_laws.proofs.Certificates.{certified}
 use Rattle.km_base.specs.declared.acts.Act.{Act}
 use Rattle.km_base.specs.declared.acts.Act.TheVariants.{Step}
 use Rattle.km_base.specs.declared.acts.Answer.{Answer}
@@ -39,19 +40,13 @@ orderly_now (m ∷ past) made = made.1
 abbrev IsLoad : Past → ScanLoad → Type 0
 IsLoad past l = (place : Place) × (value : ℕ) × (next past ≡ Some place) × (l ≡ scan_load past place value)
 
-no_load : (l : ScanLoad) → None ≡ Some l → ⊥
-no_load l e = cc
-
 load_place : (past : Past) (act : Act) (answer : Answer) (l : ScanLoad) → load_of past act answer ≡ Some l → IsLoad past l
 load_place past Step (Loaded a value) l e = go (next past) refl e
   where
-    same : (x y : ScanLoad) → Some x ≡ Some y → x ≡ y
-    same x y f = cc
-
     go : (o : Option Place) → next past ≡ o → (elim o as (λ _. Option ScanLoad) [ None ↦ None | Some place ↦ Some (scan_load past place value) ]) ≡ Some l → IsLoad past l
-    go None f g = absurd (no_load l g)
-    go (Some place) f g = (place, value, f, sym (same _ l g))
-load_place past _ _ l e = absurd (no_load l e)
+    go None f g = absurd (none_some l g)
+    go (Some place) f g = (place, value, f, sym (some_same _ l g))
+load_place past _ _ l e = absurd (none_some l e)
 
 needs_none : (b : Block) → b.minimum ≡ AtLeast 0 → needs 0 b ≡ true
 needs_none b e = subst (λ (q : Minimum). (elim q as (λ _. Bool) [ Black ↦ false | AtLeast m ↦ m == 0 ]) ≡ true) (sym e) refl
@@ -103,8 +98,8 @@ pub record IsSeen (past : Past) (s : Standing) : Type 0 where
   pub stand : (b : Block) → In b s.blocks → StandsSince past b
   pub rise : IdsRise s.blocks
   pub live : (t : Task) → In t s.stacks → LivesSince past t.number t.stack
-  pub blocks_aligned : (b : Block) → In b s.blocks → IsAligned base b.start b.size
-  pub stacks_aligned : (t : Task) → In t s.stacks → IsAligned base t.stack 4096
+  pub blocks_whole : (b : Block) → In b s.blocks → WholeWords b.start b.size
+  pub stacks_whole : (t : Task) → In t s.stacks → WholeWords t.stack 4096
   pub steady : (w u : ℕ) → IsValueAt base s.steady w u → (l : ScanLoad) → In l (early (loads past)) → l.place.word ≡ w → l.value ≡ u
 
 -- where no load is left, no white block is held
@@ -122,8 +117,8 @@ white_not_held past s id b made seen none found white held =
     let enough = certified past s (StandsSince past) (LivesSince past) old
     (content_over past (record { phase = 0; holder = 0; word = 0 }) 0 (StandsSince past) (LivesSince past) there.apart there.rise (stands_now past) (lives_now past) old over.1)
     (stacks_over past (record { phase = 0; holder = 0; word = 0 }) 0 (StandsSince past) (LivesSince past) there.apart there.rise (stands_now past) (lives_now past) old over.0)
-    seen.stand seen.rise seen.live seen.blocks_aligned seen.stacks_aligned seen.steady held.0 parts.0 id c.0 inside c.1 in
+    seen.stand seen.rise seen.live seen.blocks_whole seen.stacks_whole seen.steady held.0 parts.0 id c.0 inside c.1 in
     let id_is : (c.0).id ≡ id = eqb-true (c.0).id id (find_in (λ (x : Block). x.id == id) s.blocks c.0 c.1).0 in
-    let same : b ≡ c.0 = some_block b c.0 (sym found ∙ (ap (block_of (world past).blocks) (sym id_is) ∙ stands_now past c.0 (seen.stand c.0 enough.0))) in
+    let same : b ≡ c.0 = some_same b c.0 (sym found ∙ (ap (block_of (world past).blocks) (sym id_is) ∙ stands_now past c.0 (seen.stand c.0 enough.0))) in
     let less : hits (c.0).id (early (loads past)) < enough.1.0 = white_then past c.0 enough.1.0 (subst (λ x. is_white past x ≡ true) same white) enough.1.1 in
     omega (arith, less, enough.1.2)

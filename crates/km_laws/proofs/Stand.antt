@@ -3,11 +3,11 @@ use Rattle.std.specs.List.{list_any, list_all}
 use Rattle.std.proofs.lemmas.Bool.{and_parts, not-true}
 use Rattle.km_laws.proofs.Since.{IsAnswered, StandsSince, LivesSince}
 use Rattle.km_laws.proofs.Lists.{In, each_in, find_in, any_in}
-use Rattle.km_model.proofs.Cases.{elim_false, none_some}
+use Rattle.km_model.proofs.Cases.{elim_false, none_some, some_same}
 use Rattle.km_laws.proofs.Next.{TasksRise}
 use Rattle.km_laws.proofs.Certificates.{id_found}
 use Rattle.km_laws.proofs.Kept.{is_stack_word, IsSameBlock, Kept, event_kept, stacks_kept}
-use Rattle.km_laws.proofs.Worlds.{Of}
+use Rattle.km_model.proofs.Worlds.{Of}
 use Rattle.km_laws.proofs.Laws.{names_rise}
 use Rattle.km_laws.proofs.Completions.{no_stack_word}
 use Rattle.km_model.specs.History.{Event, History}
@@ -88,9 +88,6 @@ earlier_block : (h : History) (e : Event) (b : Block) → block_of (world (past_
     → block_of (world (past_of h)).blocks b.id ≡ Some b
 earlier_block h e b found there = go (block_of (world (past_of h)).blocks b.id) refl there
   where
-    some_same_block : (x y : Block) → Some x ≡ Some y → x ≡ y
-    some_same_block x y f = cc
-
     kept : Of (Kept (world (past_of h))) (world (past_of (e ∷ h)))
     kept = event_kept (world (past_of h)) (listing_ids (past_of h)) e.act e.answer
 
@@ -103,7 +100,7 @@ earlier_block h e b found there = go (block_of (world (past_of h)).blocks b.id) 
         let low : c.id < (world (past_of h)).registered = each_in (λ (x : Block). x.id < (world (past_of h)).registered) (world (past_of h)).blocks c (names_rise h).registered at.1 in
         elim (kept.blocks b (find_in (λ (x : Block). x.id == b.id) (world (past_of (e ∷ h))).blocks b found).1) [
           | inl d ↦
-              let d_is : d.0 ≡ c = some_same_block d.0 c (sym (ids_found h d.0 d.1) ∙ (ap (block_of (world (past_of h)).blocks) (d.2.0) ∙ f)) in
+              let d_is : d.0 ≡ c = some_same d.0 c (sym (ids_found h d.0 d.1) ∙ (ap (block_of (world (past_of h)).blocks) (d.2.0) ∙ f)) in
               let same : c ≡ b = block_same c b (subst (λ x. IsSameBlock x b) d_is d.2) g in
               f ∙ ap Some same
           | inr fresh ↦ absurd (omega (arith, fresh, low, id_is))

@@ -16,6 +16,7 @@ use Rattle.km_model.specs.Verdict.{new_blocks}
 use Rattle.km_model.specs.Answers.{answer}
 use Rattle.km_model.specs.Follows.{FollowsMemory, past_of, told_answer}
 use Rattle.km_model.specs.Held.{still_steady, steady_from, steady_words}
+use Rattle.km_model.proofs.Cases.{none_some, some_same}
 
 pub history_same : (h : History) → history_of (past_of h) ≡ h
 history_same [] = refl
@@ -27,9 +28,6 @@ still_both a [] ws w u i = absurd i
 still_both a (o ∷ os) [] w u i = absurd i
 still_both a (o ∷ os) (x ∷ ws) w u (inl here) = go o here.1
   where
-    none_some : (n : ℕ) → None ≡ Some n → ⊥
-    none_some n e = cc
-
     go : (p : Option ℕ) → (if option_is p x then p else None) ≡ Some u → IsValueAt a (p ∷ os) w u × IsValueAt a (map Some (x ∷ ws)) w u
     go None e = absurd (none_some u e)
     go (Some m) e =
@@ -50,10 +48,7 @@ steady_all a os (x ∷ memories) w u i =
 -- a value of a memory is its word
 value_index : (a : ℕ) (m : List ℕ) (w u : ℕ) → IsValueAt a (map Some m) w u → (i : ℕ) × (w ≡ a + 8 * i) × (slice_index m i ≡ u)
 value_index a [] w u i = absurd i
-value_index a (x ∷ m) w u (inl here) = (0, omega (arith, here.0), some_is x u here.1)
-  where
-    some_is : (p q : ℕ) → Some p ≡ Some q → p ≡ q
-    some_is p q e = cc
+value_index a (x ∷ m) w u (inl here) = (0, omega (arith, here.0), some_same x u here.1)
 value_index a (x ∷ m) w u (inr later) = let rest = value_index (a + 8) m w u later in (suc rest.0, omega (arith, rest.1), rest.2)
 
 index_is : (z w i : ℕ) → w ≡ z + 8 * i → (w - z) / 8 ≡ i
@@ -71,18 +66,12 @@ memory_of words p = memory_after words (history_of p)
 abbrev IsLoadOf : ℕ → History → ScanLoad → Type 0
 IsLoadOf words h l = ((k : ℕ) × (running_scan (past_of h) ≡ Some k)) × (l.value ≡ word_at (memory_after words h) l.place.word)
 
-no_load : (l : ScanLoad) → None ≡ Some l → ⊥
-no_load l e = cc
-
 load_told : (words : ℕ) (h : History) (act : Act) (given : Answer) (l : ScanLoad) → given ≡ told_answer words h act → load_of (past_of h) act given ≡ Some l → IsLoadOf words h l
 unfolding answer
 load_told words h Step (Loaded a v) l is made = go (running_scan (past_of h)) (next (past_of h)) refl is made
   where
     past : Past
     past = past_of h
-
-    load_is : (x y : ScanLoad) → Some x ≡ Some y → x ≡ y
-    load_is x y e = cc
 
     refused_no : (r : _) → Loaded a v ≡ Refused r → ⊥
     refused_no r e = cc
@@ -104,18 +93,15 @@ load_told words h Step (Loaded a v) l is made = go (running_scan (past_of h)) (n
         → (elim p as (λ _. Option ScanLoad) [ None ↦ None | Some place ↦ Some (scan_load (past_of h) place v) ]) ≡ Some l
         → IsLoadOf words h l
     go None p run e f = absurd (refused_no NoScanRunning e)
-    go (Some k) None run e f = absurd (no_load l f)
+    go (Some k) None run e f = absurd (none_some l f)
     go (Some k) (Some place) run e f =
-        let same : scan_load (past_of h) place v ≡ l = load_is (scan_load (past_of h) place v) l f in
+        let same : scan_load (past_of h) place v ≡ l = some_same (scan_load (past_of h) place v) l f in
         ((k, run), subst (λ (x : ScanLoad). x.value ≡ word_at (memory_after words h) x.place.word) same (value_is place.word (word_at (memory_after words h) place.word) e))
-load_told words h _ _ l is made = absurd (no_load l made)
+load_told words h _ _ l is made = absurd (none_some l made)
 
 -- the present moment of a running scan is one of those since its begin
 present : (h : History) (k : ℕ) → running_scan (past_of h) ≡ Some k → In (past_of h) (since_begin (past_of h))
-present [] k e = absurd (none_is k e)
-  where
-    none_is : (n : ℕ) → None ≡ Some n → ⊥
-    none_is n f = cc
+present [] k e = absurd (none_some k e)
 present (e ∷ h) k _ = go (begins e.act e.answer)
   where
     go : (q : Bool) → In (past_of (e ∷ h)) (elim q as (λ _. List Past) [ true ↦ past_of (e ∷ h) ∷ [] | false ↦ past_of (e ∷ h) ∷ since_begin (past_of h) ])

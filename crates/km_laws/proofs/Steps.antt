@@ -1,27 +1,27 @@
-use Rattle.std.proofs.Common.{◌≡◌, ℕ, suc, ◌+◌, ◌<◌, true, false, ◌&&◌, ◌||◌, ◌==◌, filter, map, List, [], ◌∷◌, ◌++◌, Option, Some, None, if◌then◌else◌, refl, sym, ap, ◌∙◌, subst, arith, ◌⊎◌, inl, inr, eqb-true, eq-eqb, append_assoc, append-nil}
-use Rattle.std.proofs.lemmas.Bool.{both_ways, and_parts}
+use Rattle.std.proofs.Common.{◌≡◌, ℕ, suc, ◌+◌, ◌<◌, true, false, ◌||◌, ◌==◌, filter, map, List, [], ◌∷◌, ◌++◌, Option, Some, None, if◌then◌else◌, refl, sym, ◌∙◌, subst, arith, ◌⊎◌, inl, inr, append_assoc, append-nil}
+use Rattle.std.proofs.lemmas.Bool.{both_ways}
 use Rattle.km_base.specs.declared.acts.Act.{Act}
 use Rattle.km_base.specs.declared.acts.Act.TheVariants.{Step}
 use Rattle.km_base.specs.declared.acts.Answer.{Answer}
 use Rattle.km_base.specs.declared.acts.Answer.TheVariants.{Loaded}
 use Rattle.km_model.specs.History.{History}
-use Rattle.km_model.specs.Blocks.{Block, needs, block_of, option_is}
+use Rattle.km_model.specs.Blocks.{Block, needs}
 use Rattle.km_model.specs.Tasks.{Task}
 use Rattle.km_model.specs.World.{World, opening}
 use Rattle.km_model.specs.Past.{Past, Place, ScanLoad, world, loads, last_load, at_begin, with_load, begins}
-use Rattle.km_model.specs.Scan.{first_queue, second_queue, ripe_in, scan_load, found_changed, ripe_by_hit, hit_of, first_of, load_of, next, tally, differs, kept_sum, last_word, sum_step, sum_so_far}
+use Rattle.km_model.specs.Scan.{first_queue, second_queue, ripe_in, scan_load, found_changed, ripe_by_hit, hit_of, load_of, next, tally}
 use Rattle.km_model.specs.Verdict.{listing_ids}
 use Rattle.km_model.specs.Changes.{world_after_event, world_after_act}
 use Rattle.km_model.specs.Follows.{moment, past_of}
-use Rattle.km_model.proofs.Cases.{none_some, some_same, if_some}
-use Rattle.km_laws.proofs.Lists.{each_in, in_each, In, Rising, rising_in, rising_unique, rising_filter, filter_in, find_in, in_map}
+use Rattle.km_laws.proofs.Lists.{each_in, in_each, In, Rising, rising_in, rising_unique, rising_filter, filter_in, in_map}
 use Rattle.km_laws.proofs.Queues.{Distinct}
-use Rattle.km_laws.proofs.Worlds.{event_keeps}
-use Rattle.km_laws.proofs.Whites.{white_in, white_is, hit_live, found_grey, ripe_grey, needless_grey}
-use Rattle.km_laws.proofs.Places.{next_is, NextPlace, WhiteWord}
+use Rattle.km_model.proofs.Worlds.{event_keeps}
+use Rattle.km_model.proofs.Whites.{white_in, white_is, hit_live, found_grey, ripe_grey, needless_grey}
+use Rattle.km_model.proofs.Places.{next_is, NextPlace, WhiteWord}
 use Rattle.km_laws.proofs.Runs.{newest, Order, Stands, QueuedGrey, HeadBlock, HeadTask, stands_closed}
 use Rattle.km_laws.proofs.Loads.{Good, good_stack, good_first, good_second, good_sum, WhiteAt}
 use Rattle.km_laws.proofs.After.{order_after, stands_after, order_first_grows, order_second_grows, stands_first_grows, stands_second_grows}
+use Rattle.km_model.proofs.Ripe.{found_is, ripe_is, either_first, is_some_same}
 
 -- the blocks that needed no reference at the begin
 abbrev pub needless : Past → List ℕ
@@ -107,62 +107,11 @@ next_good past place fit h =
       ]
     ]
 
--- the block whose sum is found changed is the holder
-found_of : (past : Past) (place : Place) (value r : ℕ) (o : Option Block) → ((b : Block) → o ≡ Some b → b.id ≡ place.holder)
-    → (elim o as (λ _. Option ℕ) [
-      | None ↦ None
-      | Some b ↦
-          if place.phase == 3 && place.word == last_word b && differs (kept_sum past b) (sum_step (sum_so_far (loads past) b.id) value)
-          then Some b.id
-          else None
-    ]) ≡ Some r → (place.phase ≡ 3) × (r ≡ place.holder)
-found_of past place value r None f h = absurd (none_some r h)
-found_of past place value r (Some b) f h =
-    let d = differs (kept_sum past b) (sum_step (sum_so_far (loads past) b.id) value) in
-    elim (if_some (place.phase == 3 && place.word == last_word b && differs (kept_sum past b) (sum_step (sum_so_far (loads past) b.id) value)) (Some b.id) None r h) [
-      | inl passed ↦
-          let parts = and_parts (place.phase == 3 && place.word == last_word b) (differs (kept_sum past b) (sum_step (sum_so_far (loads past) b.id) value)) passed.0 in
-          let more = and_parts (place.phase == 3) (place.word == last_word b) parts.0 in
-          (eqb-true place.phase 3 more.0, sym (some_same b.id r passed.1) ∙ f b refl)
-      | inr failed ↦ absurd (none_some r failed.1)
-    ]
-
-found_is : (past : Past) (place : Place) (value r : ℕ) → found_changed past place value ≡ Some r → (place.phase ≡ 3) × (r ≡ place.holder)
-found_is past place value r h =
-    found_of past place value r (block_of (world past).blocks place.holder)
-    (λ b s. eqb-true b.id place.holder (find_in (λ (c : Block). c.id == place.holder) (world past).blocks b s).0) h
-
-abbrev RipeHit : Past → ℕ → Type 0
-RipeHit past r = (b : Block) × In b (world past).blocks × (b.id ≡ r) × (needs (tally past b + 1) b ≡ true)
-
-ripe_of : (past : Past) (id r : ℕ) (o : Option Block) → ((b : Block) → o ≡ Some b → In b (world past).blocks × (b.id ≡ id))
-    → (elim o as (λ _. Option ℕ) [ None ↦ None | Some b ↦ if needs (tally past b + 1) b then Some id else None ]) ≡ Some r → (id ≡ r) × RipeHit past r
-ripe_of past id r None f h = absurd (none_some r h)
-ripe_of past id r (Some b) f h =
-    elim (if_some (needs (tally past b + 1) b) (Some id) None r h) [
-      | inl passed ↦ let g = f b refl in let same = some_same id r passed.1 in (same, (b, g.0, g.1 ∙ same, passed.0))
-      | inr failed ↦ absurd (none_some r failed.1)
-    ]
-
-ripe_is : (past : Past) (hit : Option ℕ) (r : ℕ) → ripe_by_hit past hit ≡ Some r → (hit ≡ Some r) × RipeHit past r
-ripe_is past None r h = absurd (none_some r h)
-ripe_is past (Some id) r h =
-    let k = ripe_of past id r (block_of (world past).blocks id)
-    (λ b s. let f = find_in (λ (c : Block). c.id == id) (world past).blocks b s in (f.1, eqb-true b.id id f.0)) h in
-    (ap (λ (n : ℕ). Some n) k.0, k.1)
-
-either_first : (o p : Option ℕ) (r : ℕ) → first_of o p ≡ Some r → (o ≡ Some r) ⊎ (p ≡ Some r)
-either_first None p r h = inr h
-either_first (Some n) p r h = inl h
-
 -- a load makes a white block ripe, which isn't white from then on
 abbrev pub RipeFacts : Past → Place → ℕ → ℕ → Type 0
 RipeFacts past place value r =
     ((b : Block) × In b (world past).blocks × (b.id ≡ r) × (white_in (loads past) b ≡ true))
     × ((b : Block) → In b (world past).blocks → b.id ≡ r → white_in (scan_load past place value ∷ loads past) b ≡ false)
-
-is_some_same : (o : Option ℕ) (r n : ℕ) → o ≡ Some r → n ≡ r → option_is o n ≡ true
-is_some_same o r n e f = subst (λ p. option_is p n ≡ true) (sym e) (eq-eqb r n (sym f))
 
 white_holder : (q1 q2 : List ℕ) (ls : List ScanLoad) (bs : List Block) (ts : List Task) (place : Place) → Good q1 q2 ls bs ts place → place.phase ≡ 3
     → (b : Block) × In b bs × (b.id ≡ place.holder) × (white_in ls b ≡ true)

@@ -1,4 +1,6 @@
-//! Laws of the definitions of `km_model`, each the contract of a function: what stands never meets, and a scan ends.
+//! Laws of the definitions of `km_model`, each the contract of a function: what stands never meets, a scan ends, and
+//! nothing that is held is listed (`soundness`). Two more stand in `km_model::laws`: no freed block is listed
+//! (`listed_are_live`), and a block is new at one completed scan at most (`new_at_most_once`).
 #![tactic(auto)]
 
 pub mod soundness;

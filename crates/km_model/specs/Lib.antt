@@ -21,3 +21,4 @@ pub mod Output
 pub mod Headline
 pub mod Codes
 pub mod Refusals
+pub mod Members

@@ -1,4 +1,4 @@
-use Rattle.km_laws.proofs.Moves.{all_moves_lower}
+use Rattle.km_laws.proofs.SingleMoves.{all_moves_lower}
 use Rattle.km_laws.proofs.all_moves_lower.Goals as goal
 
 pub returns : goal.returns

@@ -1,4 +1,4 @@
-use Rattle.km_laws.proofs.Moves.{no_skip_raises}
+use Rattle.km_laws.proofs.SingleMoves.{no_skip_raises}
 use Rattle.km_laws.proofs.no_skip_raises.Goals as goal
 
 pub returns : goal.returns

@@ -5,7 +5,13 @@ use Rattle.km_model.specs.Blocks.{Block, is_scanned, scanned_words, words_of, bl
 use Rattle.km_model.specs.Tasks.{Task, stack_words}
 use Rattle.km_model.specs.Past.{Past, Place, ScanLoad, world, last_load}
 use Rattle.km_model.specs.Scan.{is_white, behind, place_in, or_else, word_above, first_word, live_words, first_in, grey_next, first_stack, stack_of, stack_next, first_white, white_words, sum_next, phase_of, unless_over, next_after, next, first_queue, second_queue}
-use Rattle.km_laws.proofs.Lists.{Each, each_weaker, each_in, In, find_in, filter_in}
+use Rattle.km_model.proofs.Lists.{Each, each_weaker, each_in, In, find_in, filter_in}
+use Rattle.km_model.proofs.Cases.{none_some}
+
+-- the newest of these loads
+abbrev pub newest : List ScanLoad → Option ScanLoad
+newest [] = None
+newest (l ∷ _) = Some l
 
 -- a word of those from a start on
 abbrev pub Word : ℕ → ℕ → ℕ → Type 0
@@ -79,16 +85,13 @@ stack_word_in tasks n a i =
     stack_word_of tasks n a (find (λ (t : Task). t.number == n) tasks)
     (λ t h. let f = find_in (λ (t : Task). t.number == n) tasks t h in (f.1, eqb-true t.number n f.0)) i
 
-pub none_place : (p : Place) → None ≡ Some p → ⊥
-none_place p e = cc
-
 pub or_else_some : (x y : Option Place) (p : Place) → or_else x y ≡ Some p → (x ≡ Some p) ⊎ ((x ≡ None) × (y ≡ Some p))
 or_else_some None y p e = inr (refl, e)
 or_else_some (Some x) y p e = inl e
 
 pub or_else_none : (x y : Option Place) → or_else x y ≡ None → (x ≡ None) × (y ≡ None)
 or_else_none None y e = (refl, e)
-or_else_none (Some x) y e = absurd (none_place x (sym e))
+or_else_none (Some x) y e = absurd (none_some x (sym e))
 
 -- a place in a phase, of a holder, with a word
 abbrev pub PlaceIn : ℕ → ℕ → Option ℕ → Place → Type 0
@@ -110,7 +113,7 @@ not_over p present o place h =
 
 pub place_in_none : (phase holder : ℕ) (o : Option ℕ) → place_in phase holder o ≡ None → o ≡ None
 place_in_none phase holder None e = refl
-place_in_none phase holder (Some a) e = absurd (none_place _ (sym e))
+place_in_none phase holder (Some a) e = absurd (none_some _ (sym e))
 
 -- a grey phase: the word of a live block, of the last holder behind the last word, or of a holder behind it in the queue
 abbrev pub GreyFrom : ℕ → List ℕ → Option ScanLoad → Place → Type 0
