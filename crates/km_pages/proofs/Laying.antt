@@ -1,6 +1,6 @@
 use Rattle.std.proofs.Common.{◌≡◌, ℕ, zero, suc, ◌+◌, ◌*◌, ◌<◌, ◌≤◌, Bool, true, false, ◌||◌, not, is_none, ◌==◌, List, [], ◌∷◌, ◌++◌, length, filter, cond, Option, Some, None, ◌⊎◌, refl, sym, ap, ◌∙◌, subst, arith, inl, inr}
 use Rattle.std.specs.List.{list_any, All}
-use Rattle.std.proofs.lemmas.Bool.{cases_Bool, both_ways, not-true, not_from_false, or_parts, eqb-true, eq-eqb, false_from_ne_true}
+use Rattle.std.proofs.lemmas.Bool.{cases_Bool, cases_lt, both_ways, not-true, not_from_false, or_parts, eqb-true, eq-eqb, false_from_ne_true}
 use Rattle.std.proofs.lemmas.List.Elements.{All-push}
 use Rattle.std.proofs.lemmas.List.Folds.{list_any-append}
 use Rattle.km_model.specs.Memory.{base}
@@ -9,7 +9,7 @@ use Rattle.km_pages.specs.declared.runs.Use as kinds
 use Rattle.km_pages.specs.declared.runs.Use.TheVariants.{Slab}
 use Rattle.km_pages.specs.declared.runs.Run.{Run}
 use Rattle.km_pages.specs.Uses.{same_use, use_of}
-use Rattle.km_pages.specs.Runs.{run_with, is_free, with_run, AreRuns}
+use Rattle.km_pages.specs.Runs.{run_with, is_free, are_free, with_run, AreRuns}
 use Rattle.km_pages.specs.Laid.{IsIn, IsLaid, AreLaid, Fills, BeginAt}
 use Rattle.km_pages.proofs.FirstFit.{IsFit, are_free_at}
 use Rattle.km_pages.proofs.Writes.{inside, outside, where_is}
@@ -62,6 +62,24 @@ pub same_run : (pages : List (Option Run)) (p : ℕ) (r s : Run) → run_with pa
 same_run pages p r s a b = some_same r s (sym a ∙ b) where
   some_same : (x y : Run) → Some x ≡ Some y → x ≡ y
   some_same x y e = cc
+
+-- an allocation and free pages have no byte in common
+pub apart_free : (pages : List (Option Run)) (n p : ℕ) (x : Allocation) → 0 < n → are_free pages n p ≡ true → IsLaid pages x → (x.start + x.size ≤ page_start p) ⊎ (page_start p + 4096 * n ≤ x.start)
+apart_free pages n p x some free l =
+    let i = l.inside in
+    let low = i.low in let high = i.high in
+    let begin = begins_in l.run x i in
+    let held : (q : ℕ) → l.run.first ≤ q → q < l.run.first + l.run.len → p ≤ q → q < p + n → ⊥ = λ q a b c d. not_free pages q l.run (l.has q a b) (are_free_at pages n p q free c d) in
+    elim (cases_lt p (l.run.first + l.run.len)) [
+      | inr less ↦ inl (omega (arith, less, high))
+      | inl more ↦ elim (cases_lt l.run.first (p + n)) [
+        | inr beyond ↦ inr (omega (arith, beyond, low))
+        | inl within ↦ elim (cases_lt l.run.first p) [
+          | inl before ↦ absurd (held p (omega (arith, before)) more (omega arith) (omega (arith, some)))
+          | inr behind ↦ absurd (held l.run.first (omega arith) (omega (arith, begin)) behind within)
+        ]
+      ]
+    ]
 
 -- a new allocation in a run that is taken
 taken_touches : (b n p q start size : ℕ) → start ≡ b + 4096 * p → 4096 * n < size + 4096 → p ≤ q → q < p + n → (start < b + 4096 * (q + 1)) × (b + 4096 * q < start + size)

@@ -1,8 +1,8 @@
 //! The page host.
 
-ghost use Rattle.std.specs.Prelude.{◌≡◌, ◌+◌, ◌*◌, ◌<◌, ◌≤◌, ◌^◌, ◌==◌, ◌&&◌, IsTrue, ℕ, List, ◌∷◌, [], ◌++◌, length, replicate, Some, None, IfOk, OnErr, IfSome, true, false, Option, ◌↔◌, is_ok, option_map, if◌then◌else◌};
+ghost use Rattle.std.specs.Prelude.{◌≡◌, ◌+◌, ◌*◌, ◌<◌, ◌≤◌, ◌^◌, ◌==◌, ◌&&◌, IsTrue, ℕ, List, ◌∷◌, [], ◌++◌, length, replicate, Some, None, IfOk, OnErr, IfSome, true, false, Option, ◌↔◌, ◌⊎◌, is_ok, option_map, if◌then◌else◌};
 ghost use Rattle.std.specs.Result.{result_ok};
-ghost use Rattle.std.specs.List.{list_any};
+ghost use Rattle.std.specs.List.{All, list_any};
 ghost use Rattle.km_model.specs.Memory.{base};
 ghost use Rattle.km_model.specs.Placement.{Allocation, page_start, page_of, lowest_run, run_place, without_allocation};
 ghost use Rattle.km_model.specs.Answers.{is_boot_with, is_plain_at};
@@ -154,6 +154,7 @@ impl Pages {
         ensures lowest { IfOk result (λ a. a.0 ≡ page_start (lowest_free self.old n)) }
         ensures lowest_among { IfOk result (λ a. (used : List Allocation) → AreLaid self.old used → a.0 ≡ page_start (lowest_run used n)) }
         ensures fresh { IfOk result (λ a. (any : Use) → run_at self.old any a.0 ≡ None) }
+        ensures apart { IfOk result (λ a. (used : List Allocation) → AreLaid self.old used → All (λ (x : Allocation). (x.start + x.size ≤ a.0) ⊎ (a.0 + 4096 * n ≤ x.start)) used) }
         ensures inside { IfOk result (λ a. a.0 + 4096 * n ≤ base + 4096 * length self.old) }
         ensures refused { OnErr result (self.new ≡ self.old) }
         ensures size { length self.new ≡ length self.old }

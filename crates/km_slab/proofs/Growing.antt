@@ -1,9 +1,10 @@
 use Rattle.std.proofs.Common.{◌≡◌, ℕ, ◌+◌, ◌*◌, ◌/◌, ◌<◌, ◌≤◌, Bool, true, false, ◌&&◌, ◌||◌, ◌==◌, List, [], ◌∷◌, ◌++◌, length, Option, Some, None, option_map, if◌then◌else◌, refl, sym, ap, ◌∙◌, subst, arith, ◌⊎◌, inl, inr}
 use Rattle.std.specs.List.{list_any}
-use Rattle.std.proofs.lemmas.Bool.{and_from, or_left, or_right, or_parts, or_cases, eq-eqb, eqb-true, not-true, not_from_false}
+use Rattle.std.proofs.lemmas.Bool.{and_from, or_left, or_right, or_parts, or_cases, eq-eqb, eqb-true, not-true, not_from_false, both_ways}
 use Rattle.std.proofs.lemmas.List.Elements.{All-push}
 use Rattle.std.proofs.lemmas.List.Folds.{list_any-append}
-use Rattle.km_model.specs.Placement.{Allocation, Use, SlotTable, SectionRun, StackPage, SlabBlock, LargeRun, PlainRun, BootRun, HeadBlock, AreaRun, touches, is_slab_block}
+use Rattle.km_model.specs.Memory.{base}
+use Rattle.km_model.specs.Placement.{Allocation, Use, SlotTable, SectionRun, StackPage, SlabBlock, LargeRun, PlainRun, BootRun, HeadBlock, AreaRun, page_of, touches, is_slab_block}
 use Rattle.km_pages.specs.declared.runs.Use as kinds
 use Rattle.km_pages.specs.declared.runs.Use.TheVariants.{Plain, Section, Stack, Slab, Large, Vmalloc, Boot}
 use Rattle.km_pages.specs.declared.runs.Run.{Run}
@@ -12,8 +13,9 @@ use Rattle.km_pages.specs.Runs.{run_with, length_if}
 use Rattle.km_pages.specs.Laid.{IsLaid, AreLaid}
 use Rattle.km_pages.proofs.Laying.{all_weaker}
 use Rattle.km_marks.specs.Sets.{has}
-use Rattle.km_slab.specs.Blocks.{Sheets, AreMarks, IsFreeAt, class_at, is_live, slot_start, is_slot, IsSlot, AreBlocks, Fits}
-use Rattle.km_slab.proofs.Places.{some_number, slot_within}
+use Rattle.km_slab.specs.Blocks.{Sheets, AreMarks, IsFreeAt, class_at, is_live, slot_start, is_slot, IsSlot, Gains, AreBlocks, Fits}
+use Rattle.km_slab.proofs.Places.{cancelled, some_number, slot_within}
+use Rattle.km_slab.proofs.Slots.{page_of_slot, place_fits}
 use Rattle.km_slab.proofs.Rows.{place_small}
 
 -- one slot more is live, in a page of its class
@@ -30,24 +32,47 @@ slot_from_parts : (class a : ℕ) (x : Allocation) → is_slab_block x ≡ true 
 slot_from_parts class a x slab size start =
     and_from (is_slab_block x && x.size == class) (x.start == a) (and_from (is_slab_block x) (x.size == class) slab (eq-eqb x.size class size)) (eq-eqb x.start a start)
 
-still_slot : (sheets new : Sheets) (class p i : ℕ) (x : Allocation) → Grown sheets new class p i → IsSlot sheets x → IsSlot new x
-still_slot sheets new class p i x g s = record { page = s.page; place = s.place; class = g.kept s.page x.size s.class; fits = s.fits; start = s.start; live = g.still s.page s.place s.live }
+still_slot : (sheets new : Sheets) (class p i n a : ℕ) → Grown sheets new class p i → IsSlot sheets n a → IsSlot new n a
+still_slot sheets new class p i n a g s = record { page = s.page; place = s.place; class = g.kept s.page n s.class; fits = s.fits; start = s.start; live = g.still s.page s.place s.live }
+
+new_slot : (sheets new : Sheets) (class p i : ℕ) → Grown sheets new class p i → IsSlot new class (slot_start class p i)
+new_slot sheets new class p i g = record { page = p; place = i; class = g.at; fits = g.fits; start = refl; live = g.here }
+
+-- no live slot begins where a dead one does
+pub fresh_slot : (sheets : Sheets) (class p i : ℕ) → ((q cl : ℕ) → class_at sheets q ≡ Some cl → 8 ≤ cl) → 0 < class → class * (i + 1) ≤ 4096
+    → ((cl : ℕ) → class_at sheets p ≡ Some cl → (cl ≡ class) × (is_live sheets p i ≡ false)) → (n : ℕ) → IsSlot sheets n (slot_start class p i) → ⊥
+fresh_slot sheets class p i sizes some room dead n s =
+    let size = sizes s.page n s.class in
+    let same : s.page ≡ p = sym (page_of_slot base n s.page s.place (omega (arith, size)) s.fits) ∙ ap page_of (sym s.start) ∙ page_of_slot base class p i some room in
+    let d = dead n (subst (λ q. class_at sheets q ≡ Some n) same s.class) in
+    let inside : base + 4096 * p + class * s.place ≡ base + 4096 * p + class * i = ap (λ m. slot_start m p s.place) (sym d.0) ∙ ap (λ q. slot_start n q s.place) (sym same) ∙ sym s.start in
+    let place : s.place ≡ i = cancelled class s.place i some (omega (arith, inside)) in
+    both_ways (is_live sheets p i) d.1 (subst (λ j. is_live sheets p j ≡ true) place (subst (λ q. is_live sheets q s.place ≡ true) same s.live))
+
+pub gained : (sheets new : Sheets) (class p i : ℕ) → ((q cl : ℕ) → class_at new q ≡ Some cl → 8 ≤ cl) → ((n : ℕ) → IsSlot sheets n (slot_start class p i) → ⊥) → Grown sheets new class p i
+    → Gains sheets new class (slot_start class p i)
+gained sheets new class p i sizes fresh g = record {
+  fresh = fresh;
+  live = new_slot sheets new class p i g;
+  still = λ n b s. still_slot sheets new class p i n b g s;
+  back = λ n b s.
+      let size = sizes s.page n s.class in
+      elim (g.back s.page n s.place s.class (place_fits n s.place (omega (arith, size)) s.fits) s.live) [
+        | inl same ↦
+            let is : n ≡ class = some_number n class (sym s.class ∙ ap (class_at new) same.0 ∙ g.at) in
+            inr (is, s.start ∙ ap (λ m. slot_start m s.page s.place) is ∙ ap (λ q. slot_start class q s.place) same.0 ∙ ap (slot_start class p) same.1)
+        | inr old ↦ inl (record { page = s.page; place = s.place; class = old.0; fits = s.fits; start = s.start; live = old.1 })
+      ];
+}
 
 -- the blocks with that of the slot
 pub blocks_grown : (sheets new : Sheets) (used : List Allocation) (class p i : ℕ) (x : Allocation) → Grown sheets new class p i → AreBlocks sheets used
     → is_slab_block x ≡ true → x.size ≡ class → x.start ≡ slot_start class p i → AreBlocks new (used ++ x ∷ [])
 blocks_grown sheets new used class p i x g blocks slab size start =
-    let P = λ (s : Sheets) (y : Allocation). is_slab_block y ≡ true → IsSlot s y in
-    let this : IsSlot new x = record {
-      page = p;
-      place = i;
-      class = g.at ∙ ap Some (sym size);
-      fits = subst (λ n. n * (i + 1) ≤ 4096) (sym size) g.fits;
-      start = subst (λ n. x.start ≡ slot_start n p i) (sym size) start;
-      live = g.here;
-    } in
+    let P = λ (s : Sheets) (y : Allocation). is_slab_block y ≡ true → IsSlot s y.size y.start in
+    let this : IsSlot new x.size x.start = subst (λ n. IsSlot new n x.start) (sym size) (subst (IsSlot new class) (sym start) (new_slot sheets new class p i g)) in
     record {
-      slots = All-push (P new) used x (all_weaker (P sheets) (P new) used (λ y f s. still_slot sheets new class p i y g (f s)) blocks.slots) (λ _. this);
+      slots = All-push (P new) used x (all_weaker (P sheets) (P new) used (λ y f s. still_slot sheets new class p i y.size y.start g (f s)) blocks.slots) (λ _. this);
       live = λ q cl j at fits live.
           let test = is_slot cl (slot_start cl q j) in
           list_any-append test used (x ∷ []) ∙ elim (g.back q cl j at fits live) [
@@ -59,13 +84,13 @@ blocks_grown sheets new used class p i x g blocks slab size start =
           ];
     }
 
--- the run of a slab page
-record IsRun (o : Option Run) (p : ℕ) : Type 0 where
+-- a run of a use that begins at a page
+pub record IsRun (kind : kinds.Use) (o : Option Run) (p n : ℕ) : Type 0 where
   pub run : Run
   pub is : o ≡ Some run
-  pub kind : run.kind ≡ Slab
+  pub kind_is : run.kind ≡ kind
   pub first : run.first ≡ p
-  pub one : run.len ≡ 1
+  pub len : run.len ≡ n
 
 slab_is : (k : kinds.Use) → same_use k Slab ≡ true → k ≡ Slab
 slab_is Plain e = absurd cc
@@ -76,13 +101,17 @@ slab_is Large e = absurd cc
 slab_is Vmalloc e = absurd cc
 slab_is Boot e = absurd cc
 
-slab_run : (o : Option Run) (p : ℕ) → length_if Slab p o ≡ Some 1 → IsRun o p
-slab_run None p e = absurd cc
-slab_run (Some run) p e = by_test (same_use run.kind Slab) (run.first == p) refl refl e where
-  by_test : (a b : Bool) → same_use run.kind Slab ≡ a → (run.first == p) ≡ b → (if a && b then Some run.len else None) ≡ Some 1 → IsRun (Some run) p
-  by_test true true k f e = record { run = run; is = refl; kind = slab_is run.kind k; first = eqb-true run.first p f; one = some_number run.len 1 e }
+pub run_is : (kind : kinds.Use) (o : Option Run) (p n : ℕ) → ((k : kinds.Use) → same_use k kind ≡ true → k ≡ kind) → length_if kind p o ≡ Some n → IsRun kind o p n
+run_is kind None p n same e = absurd cc
+run_is kind (Some run) p n same e = by_test (same_use run.kind kind) (run.first == p) refl refl e where
+  by_test : (a b : Bool) → same_use run.kind kind ≡ a → (run.first == p) ≡ b → (if a && b then Some run.len else None) ≡ Some n → IsRun kind (Some run) p n
+  by_test true true k f e = record { run = run; is = refl; kind_is = same run.kind k; first = eqb-true run.first p f; len = some_number run.len n e }
   by_test true false k f e = absurd cc
   by_test false b k f e = absurd cc
+
+-- the run of a slab page
+pub slab_run : (sheets : Sheets) (pages : List (Option Run)) (class p : ℕ) → Fits sheets pages → class_at sheets p ≡ Some class → IsRun Slab (run_with pages p) p 1
+slab_run sheets pages class p fits at = run_is Slab (run_with pages p) p 1 slab_is (fits.runs p ∙ ap (option_map (λ _. 1)) at)
 
 pub slab_block_use : (u : Use) → (elim u as (λ _. Bool) [ SlabBlock ↦ true | HeadBlock _ ↦ true | _ ↦ false ]) ≡ true → use_of u ≡ Slab
 slab_block_use SlotTable e = absurd cc
@@ -99,13 +128,13 @@ slab_block_use (AreaRun s) e = absurd cc
 pub laid_grown : (sheets : Sheets) (pages : List (Option Run)) (used : List Allocation) (class p i : ℕ) (x : Allocation) → Fits sheets pages → class_at sheets p ≡ Some class → 0 < class
     → class * (i + 1) ≤ 4096 → AreLaid pages used → is_slab_block x ≡ true → x.size ≡ class → x.start ≡ slot_start class p i → AreLaid pages (used ++ x ∷ [])
 laid_grown sheets pages used class p i x fits at some room laid slab size start =
-    let r = slab_run (run_with pages p) p (fits.runs p ∙ ap (option_map (λ _. 1)) at) in
-    let first = r.first in let one = r.one in
+    let r = slab_run sheets pages class p fits at in
+    let first = r.first in let one = r.len in
     let more : class * (i + 1) ≡ class * i + class = omega arith in
     let this : IsLaid pages x = record {
       run = r.run;
       inside = record {
-        its_use = r.kind ∙ sym (slab_block_use x.«use» slab);
+        its_use = r.kind_is ∙ sym (slab_block_use x.«use» slab);
         low = omega (arith, first, start);
         high = omega (arith, first, one, start, size, more, room);
         some = omega (arith, size, some);

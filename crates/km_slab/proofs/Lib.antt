@@ -10,3 +10,6 @@ pub mod Starts
 pub mod Opening
 pub mod Growing
 pub mod Fresh
+pub mod Owners
+pub mod Shrinking
+pub mod Apart

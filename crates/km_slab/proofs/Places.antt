@@ -4,6 +4,7 @@ use Rattle.std.proofs.lemmas.Bool.{cases_Bool, and_parts, or_cases, not_from_fal
 use Rattle.km_model.specs.Memory.{base}
 use Rattle.km_model.specs.Placement.{Allocation, page_start, page_of, page_behind, is_slab_block, is_slab_page, is_taken, slots_from, slot_in, slot_from, free_slot}
 use Rattle.km_pages.specs.declared.runs.Run.{Run}
+use Rattle.km_pages.specs.declared.runs.Use.{Use}
 use Rattle.km_pages.specs.declared.runs.Use.TheVariants.{Slab}
 use Rattle.km_pages.specs.Uses.{same_use}
 use Rattle.km_pages.specs.Runs.{run_with, length_if}
@@ -16,7 +17,7 @@ use Rattle.km_slab.proofs.Slots.{any_weaker, page_of_slot, slab_page, live_taken
 pub some_number : (a b : ℕ) → Some a ≡ Some b → a ≡ b
 some_number a b e = cc
 
-cancelled : (class i j : ℕ) → 0 < class → class * i ≡ class * j → i ≡ j
+pub cancelled : (class i j : ℕ) → 0 < class → class * i ≡ class * j → i ≡ j
 cancelled class i j some e = elim (cases_lt i j) [
   | inl less ↦ absurd (lower class i j some less e)
   | inr more ↦ elim (cases_lt j i) [ inl less ↦ absurd (lower class j i some less (sym e)) | inr same ↦ omega (arith, more, same) ]
@@ -31,14 +32,15 @@ cancelled class i j some e = elim (cases_lt i j) [
 place_of_slot : (b class p i j : ℕ) → 0 < class → b + 4096 * p + class * i ≡ b + 4096 * p + class * j → i ≡ j
 place_of_slot b class p i j some e = cancelled class i j some (omega (arith, e))
 
-slab_kind : (run : Run) (p n : ℕ) → length_if Slab p (Some run) ≡ Some n → same_use run.kind Slab ≡ true
-slab_kind run p n e = by_test (same_use run.kind Slab) (run.first == p) e where
+-- a run that is found has the use that was asked for
+pub kind_found : (kind : Use) (run : Run) (p n : ℕ) → length_if kind p (Some run) ≡ Some n → same_use run.kind kind ≡ true
+kind_found kind run p n e = by_test (same_use run.kind kind) (run.first == p) e where
   by_test : (a b : Bool) → (if a && b then Some run.len else None) ≡ Some n → a ≡ true
   by_test true b e = refl
   by_test false b e = absurd cc
 
 -- what begins where a slot does is the block of that slot
-slot_live : (sheets : Sheets) (class p i : ℕ) (x : Allocation) → 0 < class → 0 < x.size → class_at sheets p ≡ Some class → IsSlot sheets x
+pub slot_live : (sheets : Sheets) (class p i : ℕ) (x : Allocation) → 0 < class → 0 < x.size → class_at sheets p ≡ Some class → IsSlot sheets x.size x.start
     → page_of x.start ≡ p → x.start ≡ slot_start class p i → is_live sheets p i ≡ true
 slot_live sheets class p i x some full at s page start =
     let same : s.page ≡ p = sym (page_of_slot base x.size s.page s.place full s.fits) ∙ ap page_of (sym s.start) ∙ page in
@@ -47,21 +49,25 @@ slot_live sheets class p i x some full at s page start =
     let place : s.place ≡ i = place_of_slot base class p s.place i some (sym began ∙ start) in
     subst (λ j. is_live sheets p j ≡ true) place (subst (λ q. is_live sheets q s.place ≡ true) same s.live)
 
+-- what begins in a slab page is a slab block
+pub slab_there : (sheets : Sheets) (pages : List (Option Run)) (class p : ℕ) (x : Allocation) → Fits sheets pages → class_at sheets p ≡ Some class → IsLaid pages x → page_of x.start ≡ p → is_slab_block x ≡ true
+slab_there sheets pages class p x fits at l page =
+    let inside = l.inside in
+    let r = begins_in l.run x inside in
+    let here : run_with pages p ≡ Some l.run = subst (λ q. run_with pages q ≡ Some l.run) page (l.has (page_of x.start) r.0 r.1) in
+    sym (slab_use x) ∙ ap (λ u. same_use u Slab) (sym inside.its_use) ∙ kind_found Slab l.run p 1 (ap (length_if Slab p) (sym here) ∙ fits.runs p ∙ ap (option_map (λ _. 1)) at)
+
 -- a slot is live where it is taken
 pub taken_live : (sheets : Sheets) (pages : List (Option Run)) (used : List Allocation) (class p i : ℕ) → AreLaid pages used → AreBlocks sheets used → Fits sheets pages
     → 0 < class → class * (i + 1) ≤ 4096 → class_at sheets p ≡ Some class → is_taken used (slot_start class p i) ≡ true → is_live sheets p i ≡ true
 taken_live sheets pages used class p i laid blocks fits some within at h =
-    let Both = λ (x : Allocation). IsLaid pages x × (is_slab_block x ≡ true → IsSlot sheets x) in
+    let Both = λ (x : Allocation). IsLaid pages x × (is_slab_block x ≡ true → IsSlot sheets x.size x.start) in
     let both : All Both used = λ k d lt. (laid.each k d lt, blocks.slots k d lt) in
     let x = passing Both (λ (x : Allocation). x.start == slot_start class p i) used both h in
     let start = eqb-true x.0.start (slot_start class p i) x.2 in
     let page : page_of x.0.start ≡ p = ap page_of start ∙ page_of_slot base class p i some within in
     let l = x.1.0 in
-    let inside = l.inside in
-    let r = begins_in l.run x.0 inside in
-    let here : run_with pages p ≡ Some l.run = subst (λ q. run_with pages q ≡ Some l.run) page (l.has (page_of x.0.start) r.0 r.1) in
-    let slab = slab_kind l.run p 1 (ap (length_if Slab p) (sym here) ∙ fits.runs p ∙ ap (option_map (λ _. 1)) at) in
-    slot_live sheets class p i x.0 some inside.some at (x.1.1 (sym (slab_use x.0) ∙ ap (λ u. same_use u Slab) (sym inside.its_use) ∙ slab)) page start
+    slot_live sheets class p i x.0 some l.inside.some at (x.1.1 (slab_there sheets pages class p x.0 fits at l page)) page start
 
 -- the first slot of a page that passes
 first_slot : (test : ℕ → Bool) (class left a i : ℕ) → i < left → ((j : ℕ) → j < i → test (a + class * j) ≡ false) → test (a + class * i) ≡ true → find test (slots_from class left a) ≡ Some (a + class * i)
@@ -102,7 +108,7 @@ slot_found sheets pages used class p i laid blocks fits some free =
 -- a page of slab blocks is a slab page of their class
 class_there : (sheets : Sheets) (used : List Allocation) (class p : ℕ) → AreBlocks sheets used → All (λ (x : Allocation). 0 < x.size) used → is_slab_page used class p ≡ true → class_at sheets p ≡ Some class
 class_there sheets used class p blocks full h =
-    let Both = λ (x : Allocation). (0 < x.size) × (is_slab_block x ≡ true → IsSlot sheets x) in
+    let Both = λ (x : Allocation). (0 < x.size) × (is_slab_block x ≡ true → IsSlot sheets x.size x.start) in
     let both : All Both used = λ k d lt. (full k d lt, blocks.slots k d lt) in
     let x = passing Both (λ (x : Allocation). is_slab_block x && x.size == class && page_of x.start == p) used both h in
     let outer = and_parts (is_slab_block x.0 && x.0.size == class) (page_of x.0.start == p) x.2 in

@@ -1,5 +1,5 @@
-use Rattle.std.proofs.Common.{◌≡◌, ℕ, ◌+◌, ◌-◌, ◌*◌, ◌/◌, ◌<◌, ◌≤◌, Bool, true, ◌&&◌, ◌==◌, List, [], ◌∷◌, Option, Some, ap, ◌∙◌, arith, inl, inr}
-use Rattle.std.specs.List.{list_any}
+use Rattle.std.proofs.Common.{◌≡◌, ℕ, suc, ◌+◌, ◌-◌, ◌*◌, ◌/◌, ◌<◌, ◌≤◌, Bool, true, ◌&&◌, ◌==◌, List, [], ◌∷◌, Option, Some, ap, ◌∙◌, arith, inl, inr}
+use Rattle.std.specs.List.{list_any, All}
 use Rattle.std.proofs.Math.Nat.{le-div_iff_mul-le}
 use Rattle.std.proofs.lemmas.Bool.{and_parts, and_from, or_cases, or_left, or_right, eqb-true, eq-eqb}
 use Rattle.km_model.specs.Memory.{base}
@@ -8,13 +8,16 @@ use Rattle.km_pages.specs.declared.runs.Run.{Run}
 use Rattle.km_slab.specs.Blocks.{Sheets, class_at, is_live, slot_start, is_slot, AreBlocks, Fits}
 
 -- what passes one test passes another
-pub any_weaker : {X : Type 0} (t u : X → Bool) (xs : List X) → ((x : X) → t x ≡ true → u x ≡ true) → list_any t xs ≡ true → list_any u xs ≡ true
-any_weaker t u [] f h = h
-any_weaker t u (x ∷ xs) f h =
+pub any_in : {X : Type 0} (t u : X → Bool) (xs : List X) → All (λ x. t x ≡ true → u x ≡ true) xs → list_any t xs ≡ true → list_any u xs ≡ true
+any_in t u [] all h = h
+any_in t u (x ∷ xs) all h =
     elim (or_cases (t x) (list_any t xs) h) [
-      | inl here ↦ or_left (u x) (list_any u xs) (f x here)
-      | inr there ↦ or_right (u x) (list_any u xs) (any_weaker t u xs f there)
+      | inl here ↦ or_left (u x) (list_any u xs) (all 0 x (omega arith) here)
+      | inr there ↦ or_right (u x) (list_any u xs) (any_in t u xs (λ k d lt. all (suc k) d (omega (arith, lt))) there)
     ]
+
+pub any_weaker : {X : Type 0} (t u : X → Bool) (xs : List X) → ((x : X) → t x ≡ true → u x ≡ true) → list_any t xs ≡ true → list_any u xs ≡ true
+any_weaker t u xs f = any_in t u xs (λ k d lt. f _)
 
 -- a slot lies in its page
 pub page_of_slot : (b class p i : ℕ) → 0 < class → class * (i + 1) ≤ 4096 → (b + 4096 * p + class * i - b) / 4096 ≡ p

@@ -1,4 +1,4 @@
-use Rattle.std.specs.Prelude.{◌≡◌, ℕ, ◌+◌, ◌*◌, ◌/◌, ◌<◌, ◌≤◌, ◌^◌, Bool, true, false, not, ◌&&◌, ◌||◌, ◌==◌, nat_le, nat_lt, List, slice_index_or, length, Option, Some, None, option_map, Result, Ok, Err}
+use Rattle.std.specs.Prelude.{◌≡◌, ℕ, ◌+◌, ◌*◌, ◌/◌, ◌<◌, ◌≤◌, ◌^◌, Bool, true, false, not, ◌&&◌, ◌||◌, ◌⊎◌, ◌==◌, nat_le, nat_lt, List, slice_index_or, length, Option, Some, None, option_map, Result, Ok, Err}
 use Rattle.std.specs.List.{list_any, All}
 use Rattle.km_base.specs.declared.spans.Span.{Span}
 use Rattle.km_base.specs.declared.acts.Answer.{Answer}
@@ -7,6 +7,7 @@ use Rattle.km_base.specs.declared.acts.Refusal.TheVariants as refusal
 use Rattle.km_marks.specs.Sets.{has}
 use Rattle.km_model.specs.Placement.{Allocation, LargeRun, is_slab_block, kmalloc_place, kmalloc_span, page_start}
 use Rattle.km_model.specs.Answers.{unless, at_place, is_bad_size}
+use Rattle.km_pages.specs.declared.errors.NoRoom.{NoRoom}
 use Rattle.km_pages.specs.declared.runs.Use.TheVariants.{Slab}
 use Rattle.km_pages.specs.declared.runs.Run.{Run}
 use Rattle.km_pages.specs.Runs.{run_from}
@@ -34,18 +35,30 @@ slot_start class p i = page_start p + class * i
 abbrev pub is_slot : ℕ → ℕ → Allocation → Bool
 is_slot class a x = is_slab_block x && x.size == class && x.start == a
 
--- a slab block is in a live slot of a page of its class
-pub record IsSlot (sheets : Sheets) (x : Allocation) : Type 0 where
+-- a live slot of this size begins here, in a page of its class
+pub record IsSlot (sheets : Sheets) (size a : ℕ) : Type 0 where
   pub page : ℕ
   pub place : ℕ
-  pub class : class_at sheets page ≡ Some x.size
-  pub fits : x.size * (place + 1) ≤ 4096
-  pub start : x.start ≡ slot_start x.size page place
+  pub class : class_at sheets page ≡ Some size
+  pub fits : size * (place + 1) ≤ 4096
+  pub start : a ≡ slot_start size page place
   pub live : is_live sheets page place ≡ true
+
+-- one live slot more, and all others are as they were
+pub record Gains (sheets new : Sheets) (size a : ℕ) : Type 0 where
+  pub fresh : (n : ℕ) → IsSlot sheets n a → ⊥
+  pub live : IsSlot new size a
+  pub still : (n b : ℕ) → IsSlot sheets n b → IsSlot new n b
+  pub back : (n b : ℕ) → IsSlot new n b → IsSlot sheets n b ⊎ ((n ≡ size) × (b ≡ a))
+
+-- one live slot fewer, and all others are as they were
+pub record Loses (sheets new : Sheets) (a : ℕ) : Type 0 where
+  pub still : (n b : ℕ) → IsSlot sheets n b → (b ≡ a → ⊥) → IsSlot new n b
+  pub back : (n b : ℕ) → IsSlot new n b → IsSlot sheets n b × (b ≡ a → ⊥)
 
 -- the slab blocks among the live allocations are the live slots of these pages
 pub record AreBlocks (sheets : Sheets) (used : List Allocation) : Type 0 where
-  pub slots : All (λ (x : Allocation). is_slab_block x ≡ true → IsSlot sheets x) used
+  pub slots : All (λ (x : Allocation). is_slab_block x ≡ true → IsSlot sheets x.size x.start) used
   pub live : (p class i : ℕ) → class_at sheets p ≡ Some class → i < 4096 / class → is_live sheets p i ≡ true → list_any (is_slot class (slot_start class p i)) used ≡ true
 
 -- the answer to a request, among these allocations
@@ -65,9 +78,22 @@ pub record IsBlock (size a : ℕ) (x : Allocation) : Type 0 where
   pub small : is_slab_block x ≡ nat_le size 4096
   pub large : nat_le size 4096 ≡ false → x.«use» ≡ LargeRun
 
--- whether an allocation is a block of this host that begins here
+-- whether an allocation is a block of whole pages
+abbrev pub is_large : Allocation → Bool
+is_large x = elim x.«use» [ LargeRun ↦ true | _ ↦ false ]
+
+-- whether such a block begins here
+abbrev pub is_large_at : ℕ → Allocation → Bool
+is_large_at a x = is_large x && x.start == a
+
+-- whether a block of this host begins here
 abbrev pub is_block_at : ℕ → Allocation → Bool
-is_block_at a x = (is_slab_block x || elim x.«use» [ LargeRun ↦ true | _ ↦ false ]) && x.start == a
+is_block_at a x = (is_slab_block x || is_large x) && x.start == a
+
+-- where a block was placed, if it was
+abbrev pub start_of : Result Span NoRoom → Option ℕ
+start_of (Ok s) = Some s.start.0
+start_of (Err _) = None
 
 -- the slab pages are the runs of that use, one page each, and each has a live block
 pub record Fits (sheets : Sheets) (pages : List (Option Run)) : Type 0 where

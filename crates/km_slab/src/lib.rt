@@ -1,14 +1,16 @@
-//! Blocks of a kernel's kmalloc: slots of slab pages.
-//!
-//! So far this is the host's lower half: the classes of sizes, and the table of marks that tells the free slot of the
-//! lowest address.
+//! Blocks of a kernel's kmalloc: slots of slab pages up to 4096 bytes, whole pages above.
 #![tactic(auto)]
 
-pub mod classes;
+mod blocks;
+mod classes;
 pub mod errors;
+mod large;
+pub mod laws;
 pub mod slab;
-pub mod small;
-pub mod table;
+mod small;
+mod table;
+#[cfg(test)]
+mod tests;
 
 pub use errors::SlabFault;
 pub use slab::Slab;

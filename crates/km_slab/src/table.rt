@@ -2,7 +2,8 @@
 
 ghost use Rattle.std.specs.Prelude.{◌≡◌, ◌+◌, ◌*◌, ◌/◌, ◌^◌, ◌<◌, ◌≤◌, ◌==◌, ◌&&◌, ◌||◌, not, nat_le, nat_lt, ℕ, length, slice_index_or, slice_set, None, Some, true, false, IfSome};
 ghost use Rattle.km_marks.specs.Sets.{has};
-ghost use Rattle.km_slab.specs.Blocks.{AreMarks, HasFree, IsFreeAt, IsFull, IsSize};
+ghost use Rattle.km_slab.specs.Blocks.{HasFree, IsFreeAt, IsFull, IsSize};
+ghost use Rattle.km_slab.specs.Tables.{IsKept, sheets};
 ghost use Rattle.km_model.specs.Placement.{page_start};
 
 use km_base::Addr;
@@ -30,21 +31,21 @@ pub struct Table {
     /// The live slots, alike.
     pub live: Marks,
     /// For each class a row of marks: its pages that have a free slot.
-    pub open: Marks,
+    pub opened: Marks,
     /// The words of such a row.
     pub row: usize,
 }
 
 /// The lowest page of a class that has a free slot.
 pub fn open_page(table: &Table, class: u32) -> Option<usize>
-    requires marks { AreMarks table.now.classes.items table.now.free table.now.live table.now.open table.now.row }
+    requires marks { IsKept table.now }
     requires size { IsSize class }
-    ensures open { IfSome result (λ p. HasFree (record { classes = table.now.classes.items; live = table.now.live }) class p) }
-    ensures lowest { IfSome result (λ p. (q : ℕ) → q < p → IsFull (record { classes = table.now.classes.items; live = table.now.live }) class q) }
-    ensures none { result ≡ None → (q : ℕ) → IsFull (record { classes = table.now.classes.items; live = table.now.live }) class q }
+    ensures open { IfSome result (λ p. HasFree (sheets table.now) class p) }
+    ensures lowest { IfSome result (λ p. (q : ℕ) → q < p → IsFull (sheets table.now) class q) }
+    ensures none { result ≡ None → (q : ℕ) → IsFull (sheets table.now) class q }
 {
     let first = table.row * (class / 8) as usize;
-    let mark = table.open.lowest(first, first + table.row)?;
+    let mark = table.opened.lowest(first, first + table.row)?;
     Some(mark - 64 * first)
 }
 
@@ -74,27 +75,27 @@ pub fn clear(marks: &mut Marks, first: usize, count: usize)
 
 /// Makes a page a slab page of a class, with all its slots free.
 pub fn take_page(table: &mut Table, page: usize, class: u32)
-    requires marks { AreMarks table.old.classes.items table.old.free table.old.live table.old.open table.old.row }
+    requires marks { IsKept table.old }
     requires size { IsSize class }
     requires page { page < length table.old.classes.items }
     requires no_slab { slice_index_or table.old.classes.items page None ≡ None }
-    ensures marks { AreMarks table.new.classes.items table.new.free table.new.live table.new.open table.new.row }
+    ensures marks { IsKept table.new }
     ensures classes { table.new.classes.items ≡ slice_set table.old.classes.items page (Some class) }
     ensures live { table.new.live ≡ table.old.live }
 {
     table.classes[page] = Some(class);
     fill(&mut table.free, SLOTS * page, (PAGE / class) as usize);
     table
-        .open
+        .opened
         .insert(64 * (table.row * (class / 8) as usize) + page);
 }
 
 /// The lowest free slot of a page of a class that has one.
 pub fn lowest_slot(table: &Table, page: usize, class: u32) -> usize
-    requires marks { AreMarks table.now.classes.items table.now.free table.now.live table.now.open table.now.row }
+    requires marks { IsKept table.now }
     requires page { page < length table.now.classes.items }
-    requires free { HasFree (record { classes = table.now.classes.items; live = table.now.live }) class page }
-    ensures slot { IsFreeAt (record { classes = table.now.classes.items; live = table.now.live }) class page result }
+    requires free { HasFree (sheets table.now) class page }
+    ensures slot { IsFreeAt (sheets table.now) class page result }
     ensures small { result < 512 }
 {
     match table
@@ -108,12 +109,12 @@ pub fn lowest_slot(table: &Table, page: usize, class: u32) -> usize
 
 /// Takes a free slot of a page of a class.
 pub fn take_slot(table: &mut Table, page: usize, class: u32, slot: usize)
-    requires marks { AreMarks table.old.classes.items table.old.free table.old.live table.old.open table.old.row }
+    requires marks { IsKept table.old }
     requires page { page < length table.old.classes.items }
     requires size { IsSize class }
     requires small { slot < 512 }
-    requires free { IsFreeAt (record { classes = table.old.classes.items; live = table.old.live }) class page slot }
-    ensures marks { AreMarks table.new.classes.items table.new.free table.new.live table.new.open table.new.row }
+    requires free { IsFreeAt (sheets table.old) class page slot }
+    ensures marks { IsKept table.new }
     ensures classes { table.new.classes.items ≡ table.old.classes.items }
     ensures live { (j : ℕ) → has table.new.live j ≡ (j == 512 * page + slot || has table.old.live j) }
 {
@@ -125,51 +126,51 @@ pub fn take_slot(table: &mut Table, page: usize, class: u32, slot: usize)
     {
         Some(_) => (),
         None => table
-            .open
+            .opened
             .remove(64 * (table.row * (class / 8) as usize) + page),
     }
 }
 
 /// Frees a live slot of a page of a class.
 pub fn give_slot(table: &mut Table, page: usize, class: u32, slot: usize)
-    requires marks { AreMarks table.old.classes.items table.old.free table.old.live table.old.open table.old.row }
+    requires marks { IsKept table.old }
     requires page { page < length table.old.classes.items }
     requires size { IsSize class }
     requires class { slice_index_or table.old.classes.items page None ≡ Some class }
     requires small { slot < 512 }
     requires fits { slot < 4096 / class }
-    ensures marks { AreMarks table.new.classes.items table.new.free table.new.live table.new.open table.new.row }
+    ensures marks { IsKept table.new }
     ensures classes { table.new.classes.items ≡ table.old.classes.items }
     ensures live { (j : ℕ) → has table.new.live j ≡ (not (j == 512 * page + slot) && has table.old.live j) }
 {
     table.live.remove(SLOTS * page + slot);
     table.free.insert(SLOTS * page + slot);
     table
-        .open
+        .opened
         .insert(64 * (table.row * (class / 8) as usize) + page);
 }
 
 /// Makes a page with no live slots no slab page.
 pub fn drop_page(table: &mut Table, page: usize, class: u32)
-    requires marks { AreMarks table.old.classes.items table.old.free table.old.live table.old.open table.old.row }
+    requires marks { IsKept table.old }
     requires page { page < length table.old.classes.items }
     requires size { IsSize class }
     requires class { slice_index_or table.old.classes.items page None ≡ Some class }
     requires dead { (i : ℕ) → i < 512 → has table.old.live (512 * page + i) ≡ false }
-    ensures marks { AreMarks table.new.classes.items table.new.free table.new.live table.new.open table.new.row }
+    ensures marks { IsKept table.new }
     ensures classes { table.new.classes.items ≡ slice_set table.old.classes.items page None }
     ensures live { table.new.live ≡ table.old.live }
 {
     clear(&mut table.free, SLOTS * page, (PAGE / class) as usize);
     table
-        .open
+        .opened
         .remove(64 * (table.row * (class / 8) as usize) + page);
     table.classes[page] = None;
 }
 
 /// The live slot that begins at an address: its page, its class and its place.
 pub fn slot_at(table: &Table, start: Addr) -> Option<(usize, u32, usize)>
-    requires marks { AreMarks table.now.classes.items table.now.free table.now.live table.now.open table.now.row }
+    requires marks { IsKept table.now }
     ensures page { IfSome result (λ r. r.0 < length table.now.classes.items) }
     ensures class { IfSome result (λ r. slice_index_or table.now.classes.items r.0 None ≡ Some r.1) }
     ensures small { IfSome result (λ r. r.2 < 512) }

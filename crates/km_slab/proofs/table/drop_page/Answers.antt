@@ -12,7 +12,7 @@ clear-requires c =
 pub returns-clause-marks : goal.returns-clause-marks
 returns-clause-marks c =
     let t = c.args.table.now in
-    dropped_marks t.classes.items t.free t.live t.open c.clear.new.marks c.remove.new.self t.row c.args.class c.args.page (record {
+    dropped_marks t.classes.items t.free t.live t.opened c.clear.new.marks c.remove.new.self t.row c.args.class c.args.page (record {
       old = c.requires.marks;
       size = c.requires.size;
       within = c.requires.page;

@@ -12,11 +12,11 @@ unreachable-requires c =
     let s = (c.requires.marks.sizes c.args.page c.args.class f.0).0 in
     let i = place_small c.args.class f.1 s f.2 in
     both_ways (has t.free (512 * c.args.page + f.1)) (c.lowest.ensures.none c.in-None.is (512 * c.args.page + f.1) (omega arith) (omega (arith, i)))
-    (was_free t.classes.items t.free t.live t.open t.row c.args.class c.args.page f.1 c.requires.marks f.0 i f.2 f.3)
+    (was_free t.classes.items t.free t.live t.opened t.row c.args.class c.args.page f.1 c.requires.marks f.0 i f.2 f.3)
 
 pub returns-clause-slot : goal.returns-clause-slot
 returns-clause-slot c =
     let t = c.args.table.now in
     let a = c.in-Some.ensures.from in let b = c.in-Some.ensures.before in
-    lowest_slot t.classes.items t.free t.live t.open t.row c.args.class c.args.page c.in-Some.number c.requires.marks c.requires.free.0 c.in-Some.ensures.here (omega (arith, a)) (omega (arith, b))
+    lowest_slot t.classes.items t.free t.live t.opened t.row c.args.class c.args.page c.in-Some.number c.requires.marks c.requires.free.0 c.in-Some.ensures.here (omega (arith, a)) (omega (arith, b))
     (λ j low less. c.in-Some.ensures.lowest j (omega (arith, low)) less)

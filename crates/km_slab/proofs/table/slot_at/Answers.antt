@@ -20,7 +20,7 @@ returns-then-page-len-clause-none c = λ _ p class i at small e.
     let t = c.args.table.now in
     elim (cases_Bool (has t.live (512 * p + i))) [
       | inl here ↦
-          let b = live_begins t.classes.items t.free t.live t.open t.row class p i c.args.start.0 c.requires.marks at small e here in
+          let b = live_begins t.classes.items t.free t.live t.opened t.row class p i c.args.start.0 c.requires.marks at small e here in
           let page = b.page in let within = b.within in let off = c.in_ok-offset.ensures in let out = c.if-page-len.true in
           absurd (omega (arith, page, within, off, out))
       | inr dead ↦ dead
@@ -31,7 +31,7 @@ returns-in_err-class-clause-none c = λ n p class i at small e.
     let t = c.args.table.now in
     elim (cases_Bool (has t.live (512 * p + i))) [
       | inl here ↦
-          let b = live_begins t.classes.items t.free t.live t.open t.row class p i c.args.start.0 c.requires.marks at small e here in
+          let b = live_begins t.classes.items t.free t.live t.opened t.row class p i c.args.start.0 c.requires.marks at small e here in
           let page = b.page in let off = c.in_ok-offset.ensures in
           let same : c.in_ok-offset.offset / 4096 ≡ p = omega (arith, page, off) in
           let none : slice_index_or t.classes.items (c.in_ok-offset.offset / 4096) None ≡ None = sym (get_or_read t.classes.items _ _ (omega arith) c.index.ensures None) ∙ c.in_err-class.was in
@@ -65,7 +65,7 @@ returns-else-inside-class-eq0-clause-none c = λ _ p class i at small e.
     let t = c.args.table.now in
     elim (cases_Bool (has t.live (512 * p + i))) [
       | inl here ↦
-          let b = live_begins t.classes.items t.free t.live t.open t.row class p i c.args.start.0 c.requires.marks at small e here in
+          let b = live_begins t.classes.items t.free t.live t.opened t.row class p i c.args.start.0 c.requires.marks at small e here in
           let page = b.page in let off = c.in_ok-offset.ensures in let inside = b.inside in
           let same : c.in_ok-offset.offset / 4096 ≡ p = omega (arith, page, off) in
           let a = sym (get_or_read t.classes.items _ _ (omega arith) c.index.ensures None) ∙ c.in_ok-class.was in

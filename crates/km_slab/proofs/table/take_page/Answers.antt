@@ -11,7 +11,7 @@ fill-requires-clause-small c =
 pub returns-clause-marks : goal.returns-clause-marks
 returns-clause-marks c =
     let t = c.args.table.now in
-    taken_marks t.classes.items t.free t.live t.open c.fill.new.marks c.insert.new.self t.row c.args.class c.args.page
+    taken_marks t.classes.items t.free t.live t.opened c.fill.new.marks c.insert.new.self t.row c.args.class c.args.page
     (record {
       old = c.requires.marks;
       size = c.requires.size;

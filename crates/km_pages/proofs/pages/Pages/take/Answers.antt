@@ -1,11 +1,11 @@
-use Rattle.std.proofs.Common.{◌≡◌, ◌==◌, Some, None, length, arith, option_map, if◌then◌else◌, refl, sym, ap, subst, ◌∙◌, ◌++◌, ◌∷◌, []}
+use Rattle.std.proofs.Common.{◌≡◌, ◌≤◌, ◌+◌, ◌*◌, ◌⊎◌, get_or, ◌==◌, Some, None, length, arith, option_map, if◌then◌else◌, refl, sym, ap, subst, ◌∙◌, ◌++◌, ◌∷◌, []}
 use Rattle.km_model.specs.Memory.{base}
 use Rattle.km_model.specs.Placement.{page_start, page_of}
 use Rattle.km_pages.specs.Runs.{first_fit, run_from, AreRuns, lowest_free, run_at}
 use Rattle.km_pages.specs.Laid.{AreLaid, Fills}
 use Rattle.km_pages.proofs.FirstFit.{fit}
 use Rattle.km_pages.proofs.Touching.{place_same, page_of_start, lowest_same}
-use Rattle.km_pages.proofs.Laying.{laid_taken}
+use Rattle.km_pages.proofs.Laying.{laid_taken, apart_free}
 use Rattle.km_pages.proofs.Changes.{runs_taken, others_taken, runs_written, taken_written, fresh}
 use Rattle.km_pages.proofs.pages.Pages.take.Goals as goal
 
@@ -67,3 +67,10 @@ pub returns-clause-fresh : goal.returns-clause-fresh
 returns-clause-fresh c = λ kind.
     let f = fit c.self.inside.pages.items c.args.n c.in-Some.first (ap (λ m. first_fit m c.args.n) (sym c.deref.ensures.value) ∙ sym c.lowest_room.ensures ∙ c.in-Some.is) in
     ap (λ m. run_at m kind c.address.result.0) (sym c.self.view_is) ∙ fresh c.self.inside.pages.items c.args.n c.in-Some.first c.address.result.0 kind c.requires f c.address.ensures
+
+pub returns-clause-apart : goal.returns-clause-apart
+returns-clause-apart c = λ used laid k d lt.
+    let f = fit c.self.inside.pages.items c.args.n c.in-Some.first (ap (λ m. first_fit m c.args.n) (sym c.deref.ensures.value) ∙ sym c.lowest_room.ensures ∙ c.in-Some.is) in
+    let x = get_or used k d in
+    subst (λ a. (x.start + x.size ≤ a) ⊎ (a + 4096 * c.args.n ≤ x.start)) (sym c.address.ensures)
+    (apart_free c.self.inside.pages.items c.args.n c.in-Some.first x c.requires f.free ((subst (λ m. AreLaid m used) (sym c.self.view_is) laid).each k d lt))
