@@ -4,4 +4,9 @@ pub mod Levels
 pub mod Orders
 pub mod Tables
 pub mod Walks
-pub mod Frames
+pub mod Weights
+pub mod Shapes
+pub mod Changes
+pub mod Maps
+pub mod Insertions
+pub mod Removals

@@ -1,7 +1,6 @@
-use Rattle.std.specs.Prelude.{◌≡◌, ℕ, ◌+◌, ◌≤◌, ◌<◌, ◌^◌, length, max, nat_lt, ◌==◌, List, [], ◌∷◌, ◌++◌, Option, None, Some, slice_get, if◌then◌else◌}
-use Rattle.km_map.specs.Entries.{IsRising}
+use Rattle.std.specs.Prelude.{ℕ, ◌+◌, ◌≤◌, max, nat_lt, ◌==◌, List, [], ◌∷◌, ◌++◌, Option, None, Some, if◌then◌else◌}
 use Rattle.km_map.specs.declared.entries.Entry.{Entry}
-use Rattle.km_tree.specs.declared.node.Node.{Node}
+use Rattle.km_tree.specs.declared.node.Placed.{Placed}
 
 -- a tree of entries, each beside the place of the table that holds it
 pub data Tree : Type 0 where
@@ -13,30 +12,41 @@ abbrev pub entries_of : Tree → List Entry
 entries_of Leaf = []
 entries_of (Fork l k e r) = entries_of l ++ e ∷ entries_of r
 
--- the places in order
-abbrev pub places_of : Tree → List ℕ
-places_of Leaf = []
-places_of (Fork l k e r) = places_of l ++ k ∷ places_of r
-
 -- how many nodes the longest way down has
 abbrev pub height_of : Tree → ℕ
 height_of Leaf = 0
 height_of (Fork l k e r) = max (height_of l) (height_of r) + 1
 
+-- what stands where no node does
+abbrev pub no_node : ℕ
+no_node = 4294967295
+
 -- the place of the node at the top
-abbrev pub root_of : Tree → Option ℕ
-root_of Leaf = None
-root_of (Fork l k e r) = Some k
+abbrev pub root_of : Tree → ℕ
+root_of Leaf = no_node
+root_of (Fork l k e r) = k
+
+-- a number for each node, added up
+abbrev pub weigh : (ℕ → Entry → ℕ) → Tree → ℕ
+weigh f Leaf = 0
+weigh f (Fork l k e r) = weigh f l + f k e + weigh f r
+
+-- how many nodes a tree has
+abbrev pub size_of : Tree → ℕ
+size_of t = weigh (λ _ _. 1) t
+
+-- 1 where two places are the same
+abbrev pub one : ℕ → ℕ → ℕ
+one i k = if i == k then 1 else 0
+
+-- how many nodes of a tree stand at a place
+abbrev pub uses : ℕ → Tree → ℕ
+uses i t = weigh (λ k _. one i k) t
 
 -- the sides of each node differ in height by at most 1
 abbrev pub IsLevel : Tree → Type 0
 IsLevel Leaf = Unit {0}
 IsLevel (Fork l k e r) = (height_of l ≤ height_of r + 1) × (height_of r ≤ height_of l + 1) × IsLevel l × IsLevel r
-
--- the table holds the nodes of a tree
-abbrev pub Stands : List Node → Tree → Type 0
-Stands table Leaf = Unit {0}
-Stands table (Fork l k e r) = (slice_get table k ≡ Some (record { entry = e; left = root_of l; right = root_of r; height = max (height_of l) (height_of r) + 1 })) × Stands table l × Stands table r
 
 -- the left side lifted over the node
 abbrev pub lifted_left : Tree → ℕ → Entry → Tree → Tree
@@ -89,61 +99,7 @@ unhung s (Fork l k e r) =
     else if nat_lt s e.span.start.0 then levelled (unhung s l) k e r
     else levelled l k e (unhung s r)
 
--- a place of the table where a tree of rising entries stands
-pub record TreeAt (table : List Node) (root : Option ℕ) : Type 0 where
-  pub tree : Tree
-  pub is : root_of tree ≡ root
-  pub stands : Stands table tree
-  pub rising : IsRising (entries_of tree)
-
-abbrev pub height_in : Option Node → ℕ
-height_in None = 0
-height_in (Some n) = n.height
-
--- the height that the table keeps of the tree at a place
-abbrev pub height_at : List Node → Option ℕ → ℕ
-height_at table None = 0
-height_at table (Some i) = height_in (slice_get table i)
-
--- a place is none of these
-abbrev pub Missing : ℕ → List ℕ → Type 0
-Missing i [] = Unit {0}
-Missing i (k ∷ ks) = (k ≡ i → ⊥) × Missing i ks
-
--- no place comes twice
-abbrev pub Distinct : List ℕ → Type 0
-Distinct [] = Unit {0}
-Distinct (k ∷ ks) = Missing k ks × Distinct ks
-
--- two tables have the same at these places
-abbrev pub Agree : List Node → List Node → List ℕ → Type 0
-Agree old new [] = Unit {0}
-Agree old new (k ∷ ks) = (slice_get new k ≡ slice_get old k) × Agree old new ks
-
--- a node over two trees, whose height is not known
-pub record Loose (table : List Node) (l : Tree) (i : ℕ) (e : Entry) (r : Tree) : Type 0 where
-  pub height : ℕ
-  pub node : slice_get table i ≡ Some (record { entry = e; left = root_of l; right = root_of r; height = height })
-  pub left : Stands table l
-  pub right : Stands table r
-  pub apart : Distinct (places_of l ++ i ∷ places_of r)
-  pub small : length (places_of l ++ i ∷ places_of r) < 2 ^ 32
-
--- a tree stands at a place, made of the nodes at some places, and nothing else has changed
-pub record Stood (old new : List Node) (ks : List ℕ) (root : ℕ) (t : Tree) : Type 0 where
-  pub top : root_of t ≡ Some root
-  pub stands : Stands new t
-  pub places : places_of t ≡ ks
-  pub rest : (i : ℕ) → Missing i ks → slice_get new i ≡ slice_get old i
-
--- some node over two trees stands at a place
-pub record AtLoose (table : List Node) (i : ℕ) : Type 0 where
-  pub l : Tree
-  pub e : Entry
-  pub r : Tree
-  pub loose : Loose table l i e r
-
--- a place of a table, or none
-abbrev pub IsPlace : List Node → Option ℕ → Type 0
-IsPlace table None = Unit {0}
-IsPlace table (Some i) = i < length table
+-- the node of the entry whose span starts at an address
+abbrev pub gone : ℕ → Tree → Option Placed
+gone s Leaf = None
+gone s (Fork l k e r) = if s == e.span.start.0 then Some (record { place = k; entry = e }) else if nat_lt s e.span.start.0 then gone s l else gone s r

@@ -1,6 +1,13 @@
 //! An index of spans by address that is a balanced tree in one table.
 #![tactic(auto)]
 
-pub mod node;
-pub mod search;
-pub mod shape;
+mod change;
+mod node;
+mod search;
+mod shape;
+pub mod tree;
+
+pub use tree::TreeMap;
+
+#[cfg(test)]
+mod tests;

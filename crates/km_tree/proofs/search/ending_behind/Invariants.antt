@@ -1,4 +1,4 @@
-use Rattle.km_tree.specs.Trees.{height_at}
+use Rattle.km_tree.specs.Tables.{height_at}
 use Rattle.km_tree.proofs.Walks.{Walk}
 use Rattle.km_tree.proofs.search.ending_behind.Given as goal
 

@@ -1,0 +1,77 @@
+//! How an entry comes into a tree and leaves it, along one path.
+
+ghost use Rattle.std.specs.Prelude.{◌≡◌};
+ghost use Rattle.km_map.specs.declared.entries.Entry.{Entry as KeptEntry};
+ghost use Rattle.km_tree.specs.Tables.{AnyBeside, AnyFork, AnyHeld, AnyPair, Held, Made, Pair, Sides};
+ghost use Rattle.km_tree.specs.Trees.{Tree, Leaf, Fork, gone, hung, joined, lowest, no_node, unhung};
+
+use crate::node::{NO_NODE, Node, Placed};
+use crate::shape::{fork, level};
+use km_map::Entry;
+
+/// Hangs an entry into a tree, as the node at a place that is not in it, and gives the new root.
+pub fn hang(nodes: &mut [Node], root: u32, new: u32, entry: Entry) -> u32
+    requires { AnyBeside nodes.old root new }
+    ensures { (t : Tree) → Sides nodes.old t root new no_node Leaf → Made nodes.old nodes.new (hung new entry t) result }
+{
+    if root == NO_NODE {
+        fork(nodes, NO_NODE, new, entry, NO_NODE);
+        return new;
+    }
+    let node = nodes[root as usize];
+    if entry.span.start.0 < node.entry.span.start.0 {
+        let left = hang(nodes, node.left, new, entry);
+        level(nodes, left, root, node.entry, node.right)
+    } else {
+        let right = hang(nodes, node.right, new, entry);
+        level(nodes, node.left, root, node.entry, right)
+    }
+}
+
+/// Takes the lowest node out of a tree, and gives its place, its entry and the new root.
+fn take_lowest(nodes: &mut [Node], i: u32) -> (u32, Entry, u32)
+    requires { AnyFork nodes.old i }
+    ensures { (l : Tree) (e : KeptEntry) (r : Tree) → Held nodes.old (Fork l i e r) i → (result.0 ≡ (lowest l i e r).0) × (result.1 ≡ (lowest l i e r).1) × Made nodes.old nodes.new (lowest l i e r).2 result.2 }
+{
+    let node = nodes[i as usize];
+    if node.left == NO_NODE {
+        return (i, node.entry, node.right);
+    }
+    let (place, entry, left) = take_lowest(nodes, node.left);
+    (place, entry, level(nodes, left, i, node.entry, node.right))
+}
+
+/// One tree of two, the first before the second.
+fn join(nodes: &mut [Node], left: u32, right: u32) -> u32
+    requires { AnyPair nodes.old left right }
+    ensures { (t u : Tree) → Pair nodes.old t left right u → Made nodes.old nodes.new (joined t u) result }
+{
+    if right == NO_NODE {
+        return left;
+    }
+    let (place, entry, rest) = take_lowest(nodes, right);
+    level(nodes, left, place, entry, rest)
+}
+
+/// Takes the entry whose span starts at an address out of a tree, and gives it and the new root.
+pub fn unhang(nodes: &mut [Node], root: u32, start: u64) -> (Option<Placed>, u32)
+    requires { AnyHeld nodes.old root }
+    ensures { (t : Tree) → Held nodes.old t root → (result.0 ≡ gone start t) × Made nodes.old nodes.new (unhung start t) result.1 }
+{
+    if root == NO_NODE {
+        return (None, root);
+    }
+    let node = nodes[root as usize];
+    let entry = node.entry;
+    if start == entry.span.start.0 {
+        let taken = Placed { place: root, entry };
+        return (Some(taken), join(nodes, node.left, node.right));
+    }
+    if start < entry.span.start.0 {
+        let (taken, left) = unhang(nodes, node.left, start);
+        (taken, level(nodes, left, root, entry, node.right))
+    } else {
+        let (taken, right) = unhang(nodes, node.right, start);
+        (taken, level(nodes, node.left, root, entry, right))
+    }
+}
