@@ -1,0 +1,3 @@
+pub mod Taking
+pub mod Live
+pub mod Changing
