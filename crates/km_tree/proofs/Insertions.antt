@@ -5,7 +5,7 @@ use Rattle.km_map.specs.Entries.{meets, with_entry, IsRising}
 use Rattle.km_map.proofs.Rising.{none_parts, apart_cases, rising-with}
 use Rattle.km_tree.specs.declared.node.Node.{Node}
 use Rattle.km_tree.specs.Tables.{Sides, Made, AnyBeside}
-use Rattle.km_tree.specs.Trees.{Tree, Leaf, entries_of, one, no_node, hung}
+use Rattle.km_tree.specs.Trees.{IsLevel, Tree, Leaf, entries_of, one, no_node, hung}
 use Rattle.km_tree.specs.Maps.{tree_at, Kept, AnyKept, AnyRoom, Fresh}
 use Rattle.km_tree.proofs.Levels.{hung_level}
 use Rattle.km_tree.proofs.Orders.{StartsApart, entries-hung}
@@ -56,13 +56,13 @@ inserted {table} {mid} {end} {tree} {spare} {root} {new = new} {next = next} {ro
 -- from a map with room, by a place that is taken and a node that is hung
 pub came : {table mid lent done : List Node} (rest : List Node) {root free more capacity new next reserved top n : ℕ} (e : Entry) (es : List Entry) → AnyKept table root free more capacity → 0 < more
     → ((tree : Tree) (spare : List ℕ) (root room : ℕ) → Kept table tree spare root free (room + 1) capacity → Fresh mid tree root new next room reserved) → lent ≡ mid
-    → ((t : Tree) → Sides lent t root new no_node Leaf → Made lent done (hung new e t) top) → n ≡ length mid → entries_of (tree_at table root) ≡ es → 0 < e.span.size → find (meets e.span) es ≡ None
+    → ((t : Tree) → IsLevel t → Sides lent t root new no_node Leaf → Made lent done (hung new e t) top) → n ≡ length mid → entries_of (tree_at table root) ≡ es → 0 < e.span.size → find (meets e.span) es ≡ None
     → Inserted (take n (done ++ rest)) top next (more - 1) reserved e es
 came {table} {mid} {lent} {done} rest {root} {free} {more} {capacity} {new} {next} {reserved} {top} {n} e es k pos takes lends hangs long seen z apart =
     let more_is : more ≡ more - 1 + 1 = omega (arith, pos) in
     let kept : Kept table k.tree k.spare root free (more - 1 + 1) capacity = subst (λ m. Kept table k.tree k.spare root free m capacity) more_is k.kept in
     let f = takes k.tree k.spare root (more - 1) kept in
-    let m : Made mid done (hung new e k.tree) top = subst (λ t. Made t done (hung new e k.tree) top) lends (hangs k.tree (subst (λ t. Sides t k.tree root new no_node Leaf) (sym lends) f.beside)) in
+    let m : Made mid done (hung new e k.tree) top = subst (λ t. Made t done (hung new e k.tree) top) lends (hangs k.tree k.kept.level (subst (λ t. Sides t k.tree root new no_node Leaf) (sym lends) f.beside)) in
     subst (λ t. Inserted t top next (more - 1) reserved e es) (sym (whole n done rest (omega (arith, long, m.same_length)))) (inserted e es kept f m seen z apart)
 
 pub any_room : {table : List Node} {root free more capacity : ℕ} → AnyKept table root free more capacity → 0 < more → AnyRoom table free capacity
@@ -75,4 +75,4 @@ pub any_beside : {table mid lent : List Node} {root free more capacity new next 
 any_beside {table} {mid} {lent} {root} {free} {more} {capacity} {new} k pos takes lends =
     let more_is : more ≡ more - 1 + 1 = omega (arith, pos) in
     let f = takes k.tree k.spare root (more - 1) (subst (λ m. Kept table k.tree k.spare root free m capacity) more_is k.kept) in
-    record { tree = k.tree; beside = subst (λ t. Sides t k.tree root new no_node Leaf) (sym lends) f.beside }
+    record { tree = k.tree; beside = subst (λ t. Sides t k.tree root new no_node Leaf) (sym lends) f.beside; level = k.kept.level }

@@ -8,7 +8,7 @@ use Rattle.km_map.proofs.Rising.{none_from, rising-filter}
 use Rattle.km_tree.specs.declared.node.Node.{Node}
 use Rattle.km_tree.specs.declared.node.Placed.{Placed}
 use Rattle.km_tree.specs.Tables.{Stands, Held, Made}
-use Rattle.km_tree.specs.Trees.{Tree, Leaf, Fork, root_of, entries_of, size_of, weigh, uses, one, no_node, unhung, gone}
+use Rattle.km_tree.specs.Trees.{IsLevel, Tree, Leaf, Fork, root_of, entries_of, size_of, weigh, uses, one, no_node, unhung, gone}
 use Rattle.km_tree.specs.Maps.{tree_at, next_in, Chained, times, Kept, AnyKept}
 use Rattle.km_tree.proofs.Finds.{or_else_none, find-append, start-right, rising-left, rising-right}
 use Rattle.km_tree.proofs.Levels.{unhung_level}
@@ -46,11 +46,11 @@ pub held_of : {table : List Node} {tree : Tree} {spare : List ℕ} {root free ro
 held_of k = record { is = k.is; stands = k.stands; once = λ i. omega (arith, k.once i); small = omega (arith, k.small) }
 
 pub went_slot : {table lent done : List Node} {root free room capacity top : ℕ} {taken : Option Placed} (s : ℕ) (es : List Entry) → AnyKept table root free room capacity → lent ≡ table
-    → ((t : Tree) → Held lent t root → (taken ≡ gone s t) × Made lent done (unhung s t) top) → entries_of (tree_at table root) ≡ es → option_map (λ (p : Placed). p.entry.slot) taken ≡ slot_where (starts_at s) es
+    → ((t : Tree) → IsLevel t → Held lent t root → (taken ≡ gone s t) × Made lent done (unhung s t) top) → entries_of (tree_at table root) ≡ es → option_map (λ (p : Placed). p.entry.slot) taken ≡ slot_where (starts_at s) es
 went_slot {table} {lent} {root = root} {taken = taken} s es any lends unhangs seen =
     let k = any.kept in
     let tree = any.tree in
-    let is : taken ≡ gone s tree = (unhangs tree (subst (λ t. Held t tree root) (sym lends) (held_of k))).0 in
+    let is : taken ≡ gone s tree = (unhangs tree k.level (subst (λ t. Held t tree root) (sym lends) (held_of k))).0 in
     slots taken ∙ ap (option_map (λ (e : Entry). e.slot)) (ap (option_map (λ (p : Placed). p.entry)) is ∙ gone_entry s tree k.rising ∙ ap (find (starts_at s)) (ap entries_of (sym (tree_is table tree root k.stands k.is)) ∙ seen))
   where
     slots : (o : Option Placed) → option_map (λ (p : Placed). p.entry.slot) o ≡ option_map (λ (e : Entry). e.slot) (option_map (λ (p : Placed). p.entry) o)
@@ -87,12 +87,12 @@ pub record Went (done rest : List Node) (root free room capacity n s : ℕ) (es 
   pub some : (p : Placed) (x : Node) → taken ≡ Some p → x.left ≡ free → Removed (slice_set (take n (done ++ rest)) p.place x) root p.place (room + 1) capacity s es
 
 pub went : {table lent done : List Node} (rest : List Node) {root free room capacity top n : ℕ} {taken : Option Placed} (s : ℕ) (es : List Entry) → AnyKept table root free room capacity → lent ≡ table
-    → ((t : Tree) → Held lent t root → (taken ≡ gone s t) × Made lent done (unhung s t) top) → n ≡ length table → entries_of (tree_at table root) ≡ es → Went done rest top free room capacity n s es taken
+    → ((t : Tree) → IsLevel t → Held lent t root → (taken ≡ gone s t) × Made lent done (unhung s t) top) → n ≡ length table → entries_of (tree_at table root) ≡ es → Went done rest top free room capacity n s es taken
 went {table} {lent} {done} rest {root} {free} {room} {capacity} {top} {n} {taken} s es any lends unhangs long seen =
     let k = any.kept in
     let tree = any.tree in
     let spare = any.spare in
-    let both : (taken ≡ gone s tree) × Made table done (unhung s tree) top = subst (λ t. (taken ≡ gone s tree) × Made t done (unhung s tree) top) lends (unhangs tree (subst (λ t. Held t tree root) (sym lends) (held_of k))) in
+    let both : (taken ≡ gone s tree) × Made table done (unhung s tree) top = subst (λ t. (taken ≡ gone s tree) × Made t done (unhung s tree) top) lends (unhangs tree k.level (subst (λ t. Held t tree root) (sym lends) (held_of k))) in
     let m = both.1 in
     let all : take n (done ++ rest) ≡ done = whole n done rest (omega (arith, long, m.same_length)) in
     let weight : (f : ℕ → Entry → ℕ) (o : Option Placed) → taken ≡ o → weigh f (unhung s tree) + part f o ≡ weigh f tree = λ f o e. subst (λ o. weigh f (unhung s tree) + part f o ≡ weigh f tree) (sym both.0 ∙ e) (weigh-unhung f s tree) in

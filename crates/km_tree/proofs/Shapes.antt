@@ -2,11 +2,12 @@ use Rattle.std.proofs.Common.{◌≡◌, ℕ, zero, suc, ◌+◌, ◌^◌, ◌<�
 use Rattle.std.specs.Prelude.{slice_get, slice_set, slice_index_or, max}
 use Rattle.std.proofs.Math.ListN.{length-set}
 use Rattle.std.proofs.lemmas.Bool.{eq-eqb, ne_eqb, lt-ltb, le-ltb}
+use Rattle.std.proofs.lemmas.Option.{slice_get-get_or}
 use Rattle.km_map.specs.declared.entries.Entry.{Entry}
 use Rattle.km_tree.specs.declared.node.Node.{Node}
-use Rattle.km_tree.specs.Tables.{Stands, Held, Sides, Made, node_of}
-use Rattle.km_tree.specs.Trees.{Tree, Leaf, Fork, height_of, size_of, uses, one, no_node, lifted_left, lifted_right, leant_left, leant_right, levelled}
-use Rattle.km_tree.proofs.Tables.{Topped, topped, leaf_at}
+use Rattle.km_tree.specs.Tables.{Stands, Held, Sides, Made, node_of, OverLeft, OverRight}
+use Rattle.km_tree.specs.Trees.{Tree, Leaf, Fork, root_of, height_of, size_of, uses, one, no_node, lifted_left, lifted_right, leant_left, leant_right, levelled}
+use Rattle.km_tree.proofs.Tables.{some_same, Topped, topped, leaf_at}
 use Rattle.km_tree.proofs.Weights.{weigh-lifted_left, weigh-lifted_right, weigh-leant_left, weigh-leant_right}
 
 pub one_at : (i k : ℕ) → i ≡ k → one i k ≡ 1
@@ -213,3 +214,34 @@ levels_right t k e u le lt p q = rw (le-ltb _ _ le, lt-ltb _ _ lt) (after p q (�
 
 pub levels_none : {table new : List Node} (t : Tree) (k : ℕ) (e : Entry) (u : Tree) → height_of t ≤ height_of u + 1 → height_of u ≤ height_of t + 1 → Made table new (Fork t k e u) k → Made table new (levelled t k e u) k
 levels_none t k e u le ge p = rw (le-ltb _ _ le, le-ltb _ _ ge) p
+
+-- a node that gets another side
+
+node_is : (table : List Node) (i : ℕ) {x : Node} (d : Node) → i < length table → slice_get table i ≡ Some x → slice_index_or table i d ≡ x
+node_is table i d h g = some_same (sym (slice_get-get_or table i d h) ∙ g)
+
+pub over_left_sides : {table : List Node} {before left root : ℕ} {l m : Tree} {e : Entry} {r : Tree} (d : Node) → OverLeft table before left root l m e r → Sides table m left root (slice_index_or table root d).right r
+over_left_sides {table} {left = left} {root = root} {m = m} {r = r} d o = subst (λ k. Sides table m left root k r) (sym (ap (λ (n : Node). n.right) (node_is table root d o.sides.inside o.node))) o.sides
+
+pub over_left_level : {table new : List Node} {before left root top : ℕ} {l m : Tree} {e : Entry} {r : Tree} (d : Node) → OverLeft table before left root l m e r → Made table new (levelled m root (slice_index_or table root d).entry r) top → Made table new (levelled m root e r) top
+over_left_level {table} {new} {root = root} {top = top} {m = m} {r = r} d o w = subst (λ x. Made table new (levelled m root x r) top) (ap (λ (n : Node). n.entry) (node_is table root d o.sides.inside o.node)) w
+
+pub over_left_same : {table : List Node} {before left root : ℕ} {l m : Tree} {e : Entry} {r : Tree} (d : Node) → OverLeft table before left root l m e r → left ≡ (slice_index_or table root d).left → height_of m ≡ before → Made table table (levelled m root e r) root
+over_left_same {table} {root = root} {l = l} {m = m} {e = e} {r = r} d o same h =
+    let root_same : root_of l ≡ root_of m = sym (o.sides.left_is ∙ same ∙ ap (λ (n : Node). n.left) (node_is table root d o.sides.inside o.node)) in
+    let height_same : height_of l ≡ height_of m = sym (h ∙ o.height) in
+    let node : node_of l e r ≡ node_of m e r = rw (root_same, height_same) refl in
+    levels_none m root e r (omega (arith, height_same, o.low)) (omega (arith, height_same, o.high)) (record { is = refl; stands = (o.node ∙ ap Some node, o.sides.place, o.sides.left, o.sides.right); rest = λ i p. refl; same_length = refl })
+
+pub over_right_sides : {table : List Node} {before right root : ℕ} {l : Tree} {e : Entry} {r m : Tree} (d : Node) → OverRight table before right root l e r m → Sides table l (slice_index_or table root d).left root right m
+over_right_sides {table} {right = right} {root = root} {l = l} {m = m} d o = subst (λ k. Sides table l k root right m) (sym (ap (λ (n : Node). n.left) (node_is table root d o.sides.inside o.node))) o.sides
+
+pub over_right_level : {table new : List Node} {before right root top : ℕ} {l : Tree} {e : Entry} {r m : Tree} (d : Node) → OverRight table before right root l e r m → Made table new (levelled l root (slice_index_or table root d).entry m) top → Made table new (levelled l root e m) top
+over_right_level {table} {new} {root = root} {top = top} {l = l} {m = m} d o w = subst (λ x. Made table new (levelled l root x m) top) (ap (λ (n : Node). n.entry) (node_is table root d o.sides.inside o.node)) w
+
+pub over_right_same : {table : List Node} {before right root : ℕ} {l : Tree} {e : Entry} {r m : Tree} (d : Node) → OverRight table before right root l e r m → right ≡ (slice_index_or table root d).right → height_of m ≡ before → Made table table (levelled l root e m) root
+over_right_same {table} {root = root} {l = l} {e = e} {r = r} {m = m} d o same h =
+    let root_same : root_of r ≡ root_of m = sym (o.sides.right_is ∙ same ∙ ap (λ (n : Node). n.right) (node_is table root d o.sides.inside o.node)) in
+    let height_same : height_of r ≡ height_of m = sym (h ∙ o.height) in
+    let node : node_of l e r ≡ node_of l e m = rw (root_same, height_same) refl in
+    levels_none l root e m (omega (arith, height_same, o.low)) (omega (arith, height_same, o.high)) (record { is = refl; stands = (o.node ∙ ap Some node, o.sides.place, o.sides.left, o.sides.right); rest = λ i p. refl; same_length = refl })

@@ -2,7 +2,7 @@ use Rattle.std.specs.Prelude.{◌≡◌, ℕ, ◌+◌, ◌≤◌, ◌<◌, ◌^�
 use Rattle.km_map.specs.Entries.{IsRising}
 use Rattle.km_map.specs.declared.entries.Entry.{Entry}
 use Rattle.km_tree.specs.declared.node.Node.{Node}
-use Rattle.km_tree.specs.Trees.{Tree, Leaf, Fork, entries_of, height_of, no_node, root_of, size_of, one, uses}
+use Rattle.km_tree.specs.Trees.{Tree, Leaf, Fork, entries_of, height_of, no_node, root_of, size_of, one, uses, IsLevel}
 
 -- the node over two trees
 abbrev pub node_of : Tree → Entry → Tree → Node
@@ -66,10 +66,11 @@ pub record AnySides (table : List Node) (l k r : ℕ) : Type 0 where
   pub right : Tree
   pub sides : Sides table left l k r right
 
--- some tree stands at a place, apart from another place
+-- some level tree stands at a place, apart from another place
 pub record AnyBeside (table : List Node) (root n : ℕ) : Type 0 where
   pub tree : Tree
   pub beside : Sides table tree root n no_node Leaf
+  pub level : IsLevel tree
 
 -- a place of the table where a tree of rising entries stands
 pub record TreeAt (table : List Node) (root : ℕ) : Type 0 where
@@ -78,15 +79,55 @@ pub record TreeAt (table : List Node) (root : ℕ) : Type 0 where
   pub stands : Stands table tree
   pub rising : IsRising (entries_of tree)
 
--- some two trees stand at two places
+-- some two trees stand at two places, the second level
 pub record AnyPair (table : List Node) (l r : ℕ) : Type 0 where
   pub left : Tree
   pub right : Tree
   pub pair : Pair table left l r right
+  pub level : IsLevel right
 
--- some tree that is no leaf stands at a place
+-- some level tree that is no leaf stands at a place
 pub record AnyFork (table : List Node) (i : ℕ) : Type 0 where
   pub left : Tree
   pub entry : Entry
   pub right : Tree
   pub held : Held table (Fork left i entry right) i
+  pub level : IsLevel (Fork left i entry right)
+
+-- some level tree stands at a place
+pub record AnyLevel (table : List Node) (root : ℕ) : Type 0 where
+  pub tree : Tree
+  pub held : Held table tree root
+  pub level : IsLevel tree
+
+-- a level node stands at a place, and another tree is to be its left side
+pub record OverLeft (table : List Node) (before left root : ℕ) (l m : Tree) (e : Entry) (r : Tree) : Type 0 where
+  pub node : slice_get table root ≡ Some (node_of l e r)
+  pub sides : Sides table m left root (root_of r) r
+  pub height : before ≡ height_of l
+  pub low : height_of l ≤ height_of r + 1
+  pub high : height_of r ≤ height_of l + 1
+
+-- a level node stands at a place, and another tree is to be its right side
+pub record OverRight (table : List Node) (before right root : ℕ) (l : Tree) (e : Entry) (r m : Tree) : Type 0 where
+  pub node : slice_get table root ≡ Some (node_of l e r)
+  pub sides : Sides table l (root_of l) root right m
+  pub height : before ≡ height_of r
+  pub low : height_of l ≤ height_of r + 1
+  pub high : height_of r ≤ height_of l + 1
+
+-- some such node
+pub record AnyOverLeft (table : List Node) (before left root : ℕ) : Type 0 where
+  pub old : Tree
+  pub new : Tree
+  pub entry : Entry
+  pub right : Tree
+  pub over : OverLeft table before left root old new entry right
+
+-- some such node
+pub record AnyOverRight (table : List Node) (before right root : ℕ) : Type 0 where
+  pub left : Tree
+  pub entry : Entry
+  pub old : Tree
+  pub new : Tree
+  pub over : OverRight table before right root left entry old new

@@ -2,17 +2,17 @@
 
 ghost use Rattle.std.specs.Prelude.{◌≡◌};
 ghost use Rattle.km_map.specs.declared.entries.Entry.{Entry as KeptEntry};
-ghost use Rattle.km_tree.specs.Tables.{AnyBeside, AnyFork, AnyHeld, AnyPair, Held, Made, Pair, Sides};
-ghost use Rattle.km_tree.specs.Trees.{Tree, Leaf, Fork, gone, hung, joined, lowest, no_node, unhung};
+ghost use Rattle.km_tree.specs.Tables.{AnyBeside, AnyFork, AnyLevel, AnyPair, Held, Made, Pair, Sides};
+ghost use Rattle.km_tree.specs.Trees.{Tree, Leaf, Fork, IsLevel, gone, hung, joined, lowest, no_node, unhung};
 
 use crate::node::{NO_NODE, Node, Placed};
-use crate::shape::{fork, level};
+use crate::shape::{fork, height, level, relevel_left, relevel_right};
 use km_map::Entry;
 
 /// Hangs an entry into a tree, as the node at a place that is not in it, and gives the new root.
 pub fn hang(nodes: &mut [Node], root: u32, new: u32, entry: Entry) -> u32
     requires { AnyBeside nodes.old root new }
-    ensures { (t : Tree) → Sides nodes.old t root new no_node Leaf → Made nodes.old nodes.new (hung new entry t) result }
+    ensures { (t : Tree) → IsLevel t → Sides nodes.old t root new no_node Leaf → Made nodes.old nodes.new (hung new entry t) result }
 {
     if root == NO_NODE {
         fork(nodes, NO_NODE, new, entry, NO_NODE);
@@ -20,31 +20,34 @@ pub fn hang(nodes: &mut [Node], root: u32, new: u32, entry: Entry) -> u32
     }
     let node = nodes[root as usize];
     if entry.span.start.0 < node.entry.span.start.0 {
+        let before = height(nodes, node.left);
         let left = hang(nodes, node.left, new, entry);
-        level(nodes, left, root, node.entry, node.right)
+        relevel_left(nodes, root, before, left)
     } else {
+        let before = height(nodes, node.right);
         let right = hang(nodes, node.right, new, entry);
-        level(nodes, node.left, root, node.entry, right)
+        relevel_right(nodes, root, before, right)
     }
 }
 
 /// Takes the lowest node out of a tree, and gives its place, its entry and the new root.
 fn take_lowest(nodes: &mut [Node], i: u32) -> (u32, Entry, u32)
     requires { AnyFork nodes.old i }
-    ensures { (l : Tree) (e : KeptEntry) (r : Tree) → Held nodes.old (Fork l i e r) i → (result.0 ≡ (lowest l i e r).0) × (result.1 ≡ (lowest l i e r).1) × Made nodes.old nodes.new (lowest l i e r).2 result.2 }
+    ensures { (l : Tree) (e : KeptEntry) (r : Tree) → IsLevel (Fork l i e r) → Held nodes.old (Fork l i e r) i → (result.0 ≡ (lowest l i e r).0) × (result.1 ≡ (lowest l i e r).1) × Made nodes.old nodes.new (lowest l i e r).2 result.2 }
 {
     let node = nodes[i as usize];
     if node.left == NO_NODE {
         return (i, node.entry, node.right);
     }
+    let before = height(nodes, node.left);
     let (place, entry, left) = take_lowest(nodes, node.left);
-    (place, entry, level(nodes, left, i, node.entry, node.right))
+    (place, entry, relevel_left(nodes, i, before, left))
 }
 
 /// One tree of two, the first before the second.
 fn join(nodes: &mut [Node], left: u32, right: u32) -> u32
     requires { AnyPair nodes.old left right }
-    ensures { (t u : Tree) → Pair nodes.old t left right u → Made nodes.old nodes.new (joined t u) result }
+    ensures { (t u : Tree) → IsLevel u → Pair nodes.old t left right u → Made nodes.old nodes.new (joined t u) result }
 {
     if right == NO_NODE {
         return left;
@@ -55,8 +58,8 @@ fn join(nodes: &mut [Node], left: u32, right: u32) -> u32
 
 /// Takes the entry whose span starts at an address out of a tree, and gives it and the new root.
 pub fn unhang(nodes: &mut [Node], root: u32, start: u64) -> (Option<Placed>, u32)
-    requires { AnyHeld nodes.old root }
-    ensures { (t : Tree) → Held nodes.old t root → (result.0 ≡ gone start t) × Made nodes.old nodes.new (unhung start t) result.1 }
+    requires { AnyLevel nodes.old root }
+    ensures { (t : Tree) → IsLevel t → Held nodes.old t root → (result.0 ≡ gone start t) × Made nodes.old nodes.new (unhung start t) result.1 }
 {
     if root == NO_NODE {
         return (None, root);
@@ -68,10 +71,12 @@ pub fn unhang(nodes: &mut [Node], root: u32, start: u64) -> (Option<Placed>, u32
         return (Some(taken), join(nodes, node.left, node.right));
     }
     if start < entry.span.start.0 {
+        let before = height(nodes, node.left);
         let (taken, left) = unhang(nodes, node.left, start);
-        (taken, level(nodes, left, root, entry, node.right))
+        (taken, relevel_left(nodes, root, before, left))
     } else {
+        let before = height(nodes, node.right);
         let (taken, right) = unhang(nodes, node.right, start);
-        (taken, level(nodes, node.left, root, entry, right))
+        (taken, relevel_right(nodes, root, before, right))
     }
 }

@@ -1,14 +1,15 @@
 //! One node over two trees, and the rotations that level it.
 
 ghost use Rattle.std.specs.Prelude.{◌≡◌};
-ghost use Rattle.km_tree.specs.Tables.{AnyHeld, AnySides, Held, Made, Sides};
+ghost use Rattle.km_map.specs.declared.entries.Entry.{Entry as KeptEntry};
+ghost use Rattle.km_tree.specs.Tables.{AnyHeld, AnyOverLeft, AnyOverRight, AnySides, Held, Made, OverLeft, OverRight, Sides};
 ghost use Rattle.km_tree.specs.Trees.{Tree, Fork, height_of, leant_left, leant_right, levelled, lifted_left, lifted_right};
 
 use crate::node::{NO_NODE, Node};
 use km_map::Entry;
 
 /// How many nodes the longest way down has.
-fn height(nodes: &[Node], root: u32) -> u32
+pub fn height(nodes: &[Node], root: u32) -> u32
     requires { AnyHeld nodes.now root }
     ensures { (t : Tree) → Held nodes.now t root → result ≡ height_of t }
 {
@@ -112,4 +113,29 @@ pub fn level(nodes: &mut [Node], left: u32, i: u32, entry: Entry, right: u32) ->
         fork(nodes, left, i, entry, right);
         i
     }
+}
+
+/// A node that gets another left side, levelled. Where that has the place and the height of the
+/// old one, nothing above it changes.
+pub fn relevel_left(nodes: &mut [Node], root: u32, before: u32, left: u32) -> u32
+    requires { AnyOverLeft nodes.old before left root }
+    ensures { (l m : Tree) (e : KeptEntry) (r : Tree) → OverLeft nodes.old before left root l m e r → Made nodes.old nodes.new (levelled m root e r) result }
+{
+    let node = nodes[root as usize];
+    if left == node.left && height(nodes, left) == before {
+        return root;
+    }
+    level(nodes, left, root, node.entry, node.right)
+}
+
+/// A node that gets another right side, levelled.
+pub fn relevel_right(nodes: &mut [Node], root: u32, before: u32, right: u32) -> u32
+    requires { AnyOverRight nodes.old before right root }
+    ensures { (l : Tree) (e : KeptEntry) (r m : Tree) → OverRight nodes.old before right root l e r m → Made nodes.old nodes.new (levelled l root e m) result }
+{
+    let node = nodes[root as usize];
+    if right == node.right && height(nodes, right) == before {
+        return root;
+    }
+    level(nodes, node.left, root, node.entry, right)
 }
