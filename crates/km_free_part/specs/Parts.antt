@@ -1,6 +1,6 @@
-use Rattle.std.specs.Prelude.{ℕ, ◌+◌, ◌-◌, ◌||◌, nat_lt, [], ◌∷◌, ◌++◌, Option, Some, None, Result, Ok, Err, if◌then◌else◌}
+use Rattle.std.specs.Prelude.{ℕ, ◌+◌, ◌-◌, nat_lt, [], ◌∷◌, ◌++◌, Option, Some, None, Result, Ok, Err, if◌then◌else◌}
 use Rattle.km_base.specs.declared.spans.Span.{Span}
-use Rattle.km_model.specs.Blocks.{Block, contains, is_black}
+use Rattle.km_model.specs.Blocks.{Block, contains}
 use Rattle.km_record.specs.declared.kinds.RecId.{RecId}
 use Rattle.km_state.specs.State.{fresh}
 use Rattle.km_track.specs.Tracker.{Live, Tracker, id_of, live_where, unregistered_at}
@@ -24,8 +24,8 @@ front_of part b = record { start = record { 0 = b.start }; size = part.start.0 -
 abbrev pub rear_of : Span → Block → Span
 rear_of part b = record { start = record { 0 = part.start.0 + part.size }; size = b.start + b.size - (part.start.0 + part.size) }
 
--- a block that is registered for a rest of another: of that it has the minimum, the birth and whether its
--- content is scanned, which of a black one it isn't
+-- a block that is registered for a rest of another: of that it has the minimum, the birth and whether its content is
+-- scanned
 abbrev pub rest_block : ℕ → Span → Block → Block
 rest_block id rest b = record {
   id = id;
@@ -33,7 +33,7 @@ rest_block id rest b = record {
   size = rest.size;
   born = b.born;
   minimum = b.minimum;
-  no_scan = is_black b || b.no_scan;
+  no_scan = b.no_scan;
   areas = [];
   excess = None;
 }

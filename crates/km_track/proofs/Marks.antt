@@ -48,7 +48,7 @@ pub wrote_judged : (white : Bool) (S T : List Slot) (order grey free : List ℕ)
     → Wrote S T order grey free es reg (is_id id) (judged white)
 wrote_judged white S T order grey free es reg id h w e =
     let p = at_id S order id w in
-    wrote S T order grey free es reg id.slot (slot_judged white (slot_at S id.slot)) (is_id id) (judged white) h p.0 e refl refl (same_sound (slot_at S id.slot).«record» _ refl refl (h.sound id.slot p.0)) (λ f. f) refl p.1 p.2
+    wrote S T order grey free es reg id.slot (slot_judged white (slot_at S id.slot)) (is_id id) (judged white) h p.0 e refl refl (same_sound (slot_at S id.slot).«record» _ refl refl (λ q. q) (h.sound id.slot p.0)) (λ f. f) refl p.1 p.2
 
 -- a white block is not queued
 pub not_queued : (S : List Slot) (order grey free : List ℕ) (es : List Entry) (reg n : ℕ) → Holds S order grey free es reg → is_white_now (live_at S n).tracked ≡ true → is_in n grey ≡ false
@@ -94,11 +94,12 @@ pub record Marked (S T : List Slot) (order grey free : List ℕ) (es : List Entr
 pub marked : (S T : List Slot) (order grey free : List ℕ) (es : List Entry) (reg : ℕ) (id : RecId) (now : Bool) (change : Tracked → Tracked) (x : Slot) → Holds S order grey free es reg
     → list_any (is_id id) (map (live_at S) order) ≡ true → is_white_now (live_at S id.slot).tracked ≡ true → T ≡ set S id.slot x → x.generation ≡ (slot_at S id.slot).generation
     → x.«record».span ≡ (slot_at S id.slot).«record».span → x.«record».areas ≡ (slot_at S id.slot).«record».areas
+    → (((slot_at S id.slot).«record».minimum ≡ Black → (slot_at S id.slot).«record».no_scan ≡ true) → x.«record».minimum ≡ Black → x.«record».no_scan ≡ true)
     → tracked_of x.generation x.«record» ≡ change (live_at S id.slot).tracked → (now ≡ true → is_white_now (tracked_of x.generation x.«record») ≡ false) → Marked S T order grey free es reg id now change
-marked S T order grey free es reg id now change x h w white e gen span areas is dark =
+marked S T order grey free es reg id now change x h w white e gen span areas quiet is dark =
     let p = at_id S order id w in
     let q = live_id S order id w in
-    let done = wrote S T order grey free es reg id.slot x (is_id id) change h p.0 e gen span (same_sound (slot_at S id.slot).«record» x.«record» span areas (h.sound id.slot p.0)) (λ _. white) is p.1 p.2 in
+    let done = wrote S T order grey free es reg id.slot x (is_id id) change h p.0 e gen span (same_sound (slot_at S id.slot).«record» x.«record» span areas quiet (h.sound id.slot p.0)) (λ _. white) is p.1 p.2 in
     let here : slot_at T id.slot ≡ x = ap (λ l. slot_at l id.slot) e ∙ get_or-set_same S id.slot x no_record (h.within id.slot p.0) in
     let out = not_queued S order grey free es reg id.slot h white in
     record {
@@ -128,7 +129,7 @@ pub counted_marked : (S T : List Slot) (order grey free : List ℕ) (es : List E
     → list_any (is_id id) (map (live_at S) order) ≡ true → is_white_now (live_at S id.slot).tracked ≡ true → T ≡ set S id.slot (slot_counted (slot_at S id.slot))
     → now ≡ needs ((slot_at S id.slot).«record».count + 1) (block_of 0 (slot_at S id.slot).«record») → Marked S T order grey free es reg id now counted
 counted_marked S T order grey free es reg id now h w white e n =
-    marked S T order grey free es reg id now counted (slot_counted (slot_at S id.slot)) h w white e refl refl refl refl (λ t. needs_dark (slot_at S id.slot).«record».minimum 0 (slot_at S id.slot).«record» refl (sym n ∙ t))
+    marked S T order grey free es reg id now counted (slot_counted (slot_at S id.slot)) h w white e refl refl refl (λ q. q) refl (λ t. needs_dark (slot_at S id.slot).«record».minimum 0 (slot_at S id.slot).«record» refl (sym n ∙ t))
 
 -- a sum is kept
 full_dark : (m : Minimum) (r : Record) (sum : ℕ) → r.minimum ≡ m → differs r.sum sum ≡ true → is_white_now (tracked_of 0 (record r { count = if differs r.sum sum then references_of (block_of 0 r) else r.count; sum = Some sum })) ≡ false
@@ -139,7 +140,7 @@ pub summed_marked : (S T : List Slot) (order grey free : List ℕ) (es : List En
     → list_any (is_id id) (map (live_at S) order) ≡ true → is_white_now (live_at S id.slot).tracked ≡ true → T ≡ set S id.slot (slot_summed sum (slot_at S id.slot))
     → now ≡ differs (slot_at S id.slot).«record».sum sum → Marked S T order grey free es reg id now (summed sum)
 summed_marked S T order grey free es reg id now sum h w white e n =
-    marked S T order grey free es reg id now (summed sum) (slot_summed sum (slot_at S id.slot)) h w white e refl refl refl refl (λ t. full_dark (slot_at S id.slot).«record».minimum (slot_at S id.slot).«record» sum refl (sym n ∙ t))
+    marked S T order grey free es reg id now (summed sum) (slot_summed sum (slot_at S id.slot)) h w white e refl refl refl (λ q. q) refl (λ t. full_dark (slot_at S id.slot).«record».minimum (slot_at S id.slot).«record» sum refl (sym n ∙ t))
 
 -- the number of the head of the queue is no other's in it
 pub head_once : (S : List Slot) (order grey free : List ℕ) (es : List Entry) (reg n : ℕ) → Holds S order grey free es reg → Some n ≡ first_of grey → is_in (slot_at S n).generation (drop 1 (ids_in S grey)) ≡ false

@@ -203,7 +203,7 @@ begun S T order grey free es reg spare h e =
         known = λ y a. let k = h.known y a in (k.0, k.1 ∙ sym (entry y.slot k.0));
         rising = h.rising;
         ids = rise_in S T 0 order reg gens h.ids;
-        sound = λ m j. subst (λ (y : Slot). IsSound y.«record») (sym (same m j)) (same_sound (slot_at S m).«record» _ refl refl (h.sound m j));
+        sound = λ m j. subst (λ (y : Slot). IsSound y.«record») (sym (same m j)) (same_sound (slot_at S m).«record» _ refl refl (λ q. q) (h.sound m j));
       });
       seen = λ i. record { live = lives i; queue = ids i; registered = reg; spare = spare };
       long = long;

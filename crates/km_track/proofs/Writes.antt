@@ -12,6 +12,7 @@ use Rattle.km_record.specs.declared.kinds.RecId.{RecId}
 use Rattle.km_record.specs.declared.kinds.Paint.{Paint}
 use Rattle.km_record.specs.declared.kinds.Paint.TheVariants as paint
 use Rattle.km_record.specs.declared.record.Record.{Record}
+use Rattle.km_record.specs.declared.kinds.Minimum.TheVariants.{Black}
 use Rattle.km_record.specs.Records.{IsSound, painted, record_painted}
 use Rattle.km_track.specs.declared.slots.Slot.{Slot}
 use Rattle.km_track.specs.Slots.{no_record, slot_at, slot_painted, slot_unscanned, slot_forgotten, slot_excess}
@@ -122,8 +123,8 @@ no_start S order grey free es reg a h w = (where_none S order grey free es reg (
 
 -- a record that is painted, and one that is no longer scanned
 pub sound_painted : (to : Paint) (r : Record) → IsSound r → IsSound (record_painted to r)
-sound_painted paint.Grey r s = record { start = s.start; size = s.size; end = s.end; inside = s.inside; packed = s.packed; places = s.places }
-sound_painted paint.Black r s = record { start = s.start; size = s.size; end = s.end; inside = s.inside; packed = s.packed; places = s.places }
+sound_painted paint.Grey r s = record { start = s.start; size = s.size; end = s.end; inside = s.inside; packed = s.packed; places = s.places; quiet = λ e. absurd (let z : ⊥ = cc in z) }
+sound_painted paint.Black r s = record { start = s.start; size = s.size; end = s.end; inside = s.inside; packed = s.packed; places = s.places; quiet = λ _. refl }
 
 pub wrote_paint : (to : Paint) (S T : List Slot) (order grey free : List ℕ) (es : List Entry) (reg a n : ℕ) → Holds S order grey free es reg → Some n ≡ slot_where (starts_at a) es → T ≡ set S n (slot_painted to (slot_at S n))
     → Wrote S T order grey free es reg (λ (l : Live). begins a l.tracked.block) (λ (u : Tracked). record u { block = painted to u.block })
@@ -134,20 +135,20 @@ wrote_paint paint.Black S T order grey free es reg a n h w e =
     let p = at_start S order grey free es reg a n h w in
     wrote S T order grey free es reg n (slot_painted paint.Black (slot_at S n)) (λ (l : Live). begins a l.tracked.block) (λ (u : Tracked). record u { block = painted paint.Black u.block }) h p.0 e refl refl (sound_painted paint.Black _ (h.sound n p.0)) (λ f. absurd (let z : ⊥ = cc in z)) refl p.2 p.3
 
-pub same_sound : (r q : Record) → q.span ≡ r.span → q.areas ≡ r.areas → IsSound r → IsSound q
-same_sound r q e f s = record { start = rw e s.start; size = rw e s.size; end = rw e s.end; inside = rw (e, f) s.inside; packed = rw f s.packed; places = rw f s.places }
+pub same_sound : (r q : Record) → q.span ≡ r.span → q.areas ≡ r.areas → ((r.minimum ≡ Black → r.no_scan ≡ true) → q.minimum ≡ Black → q.no_scan ≡ true) → IsSound r → IsSound q
+same_sound r q e f g s = record { start = rw e s.start; size = rw e s.size; end = rw e s.end; inside = rw (e, f) s.inside; packed = rw f s.packed; places = rw f s.places; quiet = g s.quiet }
 
 pub wrote_unscanned : (S T : List Slot) (order grey free : List ℕ) (es : List Entry) (reg a n : ℕ) → Holds S order grey free es reg → Some n ≡ slot_where (starts_at a) es → T ≡ set S n (slot_unscanned (slot_at S n))
     → Wrote S T order grey free es reg (λ (l : Live). begins a l.tracked.block) (λ (u : Tracked). record u { block = unscanned u.block })
 wrote_unscanned S T order grey free es reg a n h w e =
     let p = at_start S order grey free es reg a n h w in
-    wrote S T order grey free es reg n (slot_unscanned (slot_at S n)) (λ (l : Live). begins a l.tracked.block) (λ (u : Tracked). record u { block = unscanned u.block }) h p.0 e refl refl (same_sound (slot_at S n).«record» _ refl refl (h.sound n p.0)) (λ f. f) refl p.2 p.3
+    wrote S T order grey free es reg n (slot_unscanned (slot_at S n)) (λ (l : Live). begins a l.tracked.block) (λ (u : Tracked). record u { block = unscanned u.block }) h p.0 e refl refl (same_sound (slot_at S n).«record» _ refl refl (λ _ _. refl) (h.sound n p.0)) (λ f. f) refl p.2 p.3
 
 pub wrote_forgotten : (S T : List Slot) (order grey free : List ℕ) (es : List Entry) (reg a n : ℕ) → Holds S order grey free es reg → Some n ≡ slot_where (starts_at a) es → T ≡ set S n (slot_forgotten (slot_at S n))
     → Wrote S T order grey free es reg (λ (l : Live). begins a l.tracked.block) (λ (u : Tracked). record u { kept = None })
 wrote_forgotten S T order grey free es reg a n h w e =
     let p = at_start S order grey free es reg a n h w in
-    wrote S T order grey free es reg n (slot_forgotten (slot_at S n)) (λ (l : Live). begins a l.tracked.block) (λ (u : Tracked). record u { kept = None }) h p.0 e refl refl (same_sound (slot_at S n).«record» _ refl refl (h.sound n p.0)) (λ f. f) refl p.2 p.3
+    wrote S T order grey free es reg n (slot_forgotten (slot_at S n)) (λ (l : Live). begins a l.tracked.block) (λ (u : Tracked). record u { kept = None }) h p.0 e refl refl (same_sound (slot_at S n).«record» _ refl refl (λ q. q) (h.sound n p.0)) (λ f. f) refl p.2 p.3
 
 -- the one block with an id
 pub at_id : (S : List Slot) (order : List ℕ) (id : RecId) → list_any (is_id id) (map (live_at S) order) ≡ true → (is_in id.slot order ≡ true) × (is_id id (live_at S id.slot) ≡ true) × ((m : ℕ) → is_in m order ≡ true → is_id id (live_at S m) ≡ true → m ≡ id.slot)
@@ -159,4 +160,4 @@ pub wrote_excess : (to : Addr) (S T : List Slot) (order grey free : List ℕ) (e
     → Wrote S T order grey free es reg (is_id id) (λ (u : Tracked). record u { block = record u.block { excess = Some to.0 } })
 wrote_excess to S T order grey free es reg id h w e =
     let p = at_id S order id w in
-    wrote S T order grey free es reg id.slot (slot_excess to (slot_at S id.slot)) (is_id id) (λ (u : Tracked). record u { block = record u.block { excess = Some to.0 } }) h p.0 e refl refl (same_sound (slot_at S id.slot).«record» _ refl refl (h.sound id.slot p.0)) (λ f. f) refl p.1 p.2
+    wrote S T order grey free es reg id.slot (slot_excess to (slot_at S id.slot)) (is_id id) (λ (u : Tracked). record u { block = record u.block { excess = Some to.0 } }) h p.0 e refl refl (same_sound (slot_at S id.slot).«record» _ refl refl (λ q. q) (h.sound id.slot p.0)) (λ f. f) refl p.1 p.2

@@ -37,4 +37,5 @@ returns-clause-sound c =
       inside = rw done.areas (each_end _ _ _ s.inside (c.requires.start, c.requires.size, low, omega arith));
       packed = done.packed;
       places = length-set c.args.self.now.areas c.in-Some.place (Some c.args.area) ∙ s.places;
+      quiet = s.quiet;
     }
