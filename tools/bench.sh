@@ -1,6 +1,7 @@
 #!/usr/bin/env bash
 # Prints how fast the program reads: megabytes a second over 64 MiB of line feeds, and of comments,
-# and how many million lines of a generated script are parsed a second.
+# and how many million lines of a generated script are parsed a second; how long the tracker takes to
+# register and find blocks, with the memory that is resident; and the slab host's calls.
 set -eu
 cd "$(dirname "$0")/.."
 program=crates/kmemleak/out/kmemleak
@@ -28,3 +29,17 @@ before=$(date +%s%N)
 lines=$("$parser" | cut -d' ' -f1)
 after=$(date +%s%N)
 echo "lines of a generated script, made and read: $((lines * 1000 / (after - before))) million a second"
+tracker=crates/bench_track/out/bench_track
+if [ ! -x "$tracker" ]; then
+  (cd crates/bench_track && rt run </dev/null >/dev/null)
+fi
+for blocks in 10 100000 1000000 4194304; do
+  /usr/bin/time -f "in the largest memory, registered and found in %e s, %M KB resident" "$tracker" "$blocks" 2>&1 | paste -sd' '
+done
+slab=crates/bench_slab/out/bench_slab
+if [ ! -x "$slab" ]; then
+  (cd crates/bench_slab && rt run </dev/null >/dev/null)
+fi
+for blocks in 100000 500000; do
+  /usr/bin/time -f "of kmalloc and kfree with up to $blocks live blocks in %e s" "$slab" "$blocks" 2>&1 | paste -sd' '
+done

@@ -137,7 +137,9 @@ fn use_of_page(pages: &[Option<Run>], page: usize) -> Option<Use>
 impl Pages {
     /// A memory of so many free pages.
     pub fn new(alloc: Global, pages: u32) -> Result<Pages, NoMemory>
-        ensures { IfOk result (λ m. m ≡ replicate pages None) }
+        ensures free { IfOk result (λ m. m ≡ replicate pages None) }
+        ensures size { IfOk result (λ m. length m ≡ pages) }
+        ensures runs { IfOk result (λ m. (kind : Use) (p : ℕ) → run_from m kind p ≡ None) }
     {
         match vec![in alloc; None; pages as usize] {
             Ok(pages) => Ok(Pages { pages }),

@@ -1,13 +1,9 @@
-use Rattle.std.proofs.Common.{◌≡◌, ℕ, ◌+◌, ◌*◌, ◌/◌, ◌<◌, ◌≤◌, true, false, not, List, length, slice_index_or, Option, Some, None, sym, ap, ◌∙◌, subst, arith, inl, inr, mul-le-mul_left, mul-le-mul_right, ltb-true, lt-ltb}
+use Rattle.std.proofs.Common.{◌≡◌, ℕ, ◌+◌, ◌*◌, ◌/◌, ◌<◌, ◌≤◌, true, false, not, List, length, slice_index_or, Option, Some, None, sym, ap, ◌∙◌, subst, arith, inl, inr, mul-le-mul_right, ltb-true, lt-ltb}
 use Rattle.std.proofs.lemmas.Bool.{cases_Bool, and_parts, and_from, both_ways, not-true, not_from_false, cases_lt}
 use Rattle.std.proofs.lemmas.List.{get_or_past}
 use Rattle.km_marks.specs.Sets.{has}
 use Rattle.km_slab.specs.Blocks.{AreMarks, HasFree, IsFull, IsSize, has_place}
 use Rattle.km_slab.proofs.Places.{slot_within}
-
--- the words of the rows are few
-pub row_small : (row k : ℕ) → k ≤ 512 → row * k + row ≤ 513 * row
-row_small row k le = let m : row * k ≤ row * 512 = mul-le-mul_left row le in omega (arith, m)
 
 -- a page has at most 512 slots
 pub place_small : (class i : ℕ) → 8 ≤ class → i < 4096 / class → i < 512

@@ -10,6 +10,7 @@ use Rattle.km_pages.specs.declared.runs.Run.{Run}
 use Rattle.km_pages.specs.declared.runs.Use.TheVariants.{Slab, Vmalloc}
 use Rattle.km_pages.specs.Uses.{same_use}
 use Rattle.km_pages.specs.Runs.{length_if, run_at, run_from, run_with}
+use Rattle.km_pages.proofs.Touching.{page_of_start}
 use Rattle.km_pages.proofs.Laying.{all_left, any_left}
 use Rattle.km_slab.specs.Blocks.{Sheets, Fits as SlabFits, IsSlot, Loses}
 use Rattle.km_slab.proofs.Owners.{at_page}
@@ -154,6 +155,12 @@ fits_added areas slab new_slab pages new_pages size v added placed fits = record
       | inr old ↦ fits.areas_differ s t u w was.1 old.1 e
     ]
   ];
+  only = λ p n h. elim (cases_eq p (page_of v.area.start.0)) [
+    | inl same ↦ record { slot = v.slot; area = v; live = at_same areas v.slot (Some v) added.within; begins = (at_page new_pages Vmalloc v.area.start.0 (pages_for size) placed.run).0 ∙ ap page_start (sym same) }
+    | inr ne ↦
+        let old = fits.only p n (sym (placed.runs p ∙ ap (λ b. if b then Some (pages_for size) else run_from pages Vmalloc p) (ne_eqb p (page_of v.area.start.0) ne)) ∙ h) in
+        record { slot = old.slot; area = old.area; live = kept_area areas v old.area old.slot added old.live; begins = old.begins }
+  ];
 } where
   far : (w : VmArea) → IsRun pages w → w.area.start.0 ≡ v.area.start.0 → ⊥
   far w r e = fresh_page pages new_pages v.area.start.0 w.area.start.0 r.count (pages_for size) placed.fresh placed.run r.run (ap page_of e)
@@ -189,7 +196,23 @@ fits_gone areas slab less pages new v within live loses runs fits =
           };
       heads_differ = λ s t u w a b e. fits.heads_differ s t u w (gone_area areas v.slot s u within a).1 (gone_area areas v.slot t w within b).1 e;
       areas_differ = λ s t u w a b e. fits.areas_differ s t u w (gone_area areas v.slot s u within a).1 (gone_area areas v.slot t w within b).1 e;
-    }
+      only = λ p n h. elim (cases_eq p (page_of v.area.start.0)) [
+        | inl same ↦ absurd (none_some n (sym (runs p ∙ ap (λ b. if b then None else run_from pages Vmalloc p) (eq-eqb p (page_of v.area.start.0) same)) ∙ h))
+        | inr ne ↦
+            let old = fits.only p n (sym (runs p ∙ ap (λ b. if b then None else run_from pages Vmalloc p) (ne_eqb p (page_of v.area.start.0) ne)) ∙ h) in
+            record {
+              slot = old.slot;
+              area = old.area;
+              live = at_other areas v.slot old.slot None (λ same. ne (other_page p old.area (one_area (area_at areas v.slot) old.area v (subst (λ t. area_at areas t ≡ Some old.area) same old.live) live) old.begins)) ∙ old.live;
+              begins = old.begins;
+            }
+      ];
+    } where
+      none_some : (n : ℕ) → None ≡ Some n → ⊥
+      none_some n e = cc
+
+      other_page : (p : ℕ) (w : VmArea) → w ≡ v → w.area.start.0 ≡ page_start p → p ≡ page_of v.area.start.0
+      other_page p w is begins = sym (page_of_start base p) ∙ ap page_of (sym begins ∙ ap area_start is)
 
 -- a head and an area begin at different addresses
 pub head_not_area : (slab : Sheets) (pages : List (Option Run)) (h a n : ℕ) → SlabFits slab pages → IsSlot slab 64 h → run_at pages Vmalloc a ≡ Some n → h ≡ a → ⊥
@@ -266,4 +289,5 @@ fits_back areas slab less pages new still runs fits = record {
       record { count = r.count; run = ap (λ o. if w.area.start.0 == page_start (page_of w.area.start.0) then o else None) (runs (page_of w.area.start.0)) ∙ r.run; size = r.size };
   heads_differ = fits.heads_differ;
   areas_differ = fits.areas_differ;
+  only = λ p n h. fits.only p n (sym (runs p) ∙ h);
 }

@@ -1,3 +1,4 @@
 pub mod Taking
 pub mod Live
 pub mod Changing
+pub mod Beside

@@ -4,7 +4,7 @@ use Rattle.km_base.specs.declared.spans.Span.{Span}
 use Rattle.km_base.specs.declared.acts.Answer.{Answer}
 use Rattle.km_base.specs.declared.acts.Answer.TheVariants.{At, Refused}
 use Rattle.km_base.specs.declared.acts.Refusal.TheVariants as refusal
-use Rattle.km_model.specs.Placement.{Allocation, HeadBlock, AreaRun, area_place, has_slot, lowest_slab, lowest_slot, page_of, pages_for, without_allocation}
+use Rattle.km_model.specs.Placement.{Allocation, HeadBlock, AreaRun, area_place, has_slot, lowest_slab, lowest_slot, page_of, page_start, pages_for, without_allocation}
 use Rattle.km_model.specs.Answers.{unless, at_place, is_bad_size}
 use Rattle.km_pages.specs.declared.runs.Run.{Run}
 use Rattle.km_pages.specs.declared.runs.Use.TheVariants.{Vmalloc}
@@ -85,13 +85,22 @@ pub record IsRun (pages : List (Option Run)) (v : VmArea) : Type 0 where
   pub run : run_at pages Vmalloc v.area.start.0 ≡ Some count
   pub size : v.area.size ≡ 4096 * count
 
--- each live area has a head that is a live slab block, and a run of pages, and no two have one of these in common
+-- a live area begins with a page
+pub record HasArea (areas : List (Option VmArea)) (p : ℕ) : Type 0 where
+  pub slot : ℕ
+  pub area : VmArea
+  pub live : area_at areas slot ≡ Some area
+  pub begins : area.area.start.0 ≡ page_start p
+
+-- each live area has a head that is a live slab block, and a run of pages; no two have one of these in common,
+-- and there are no other runs of that use
 pub record Fits (areas : List (Option VmArea)) (slab : Sheets) (pages : List (Option Run)) : Type 0 where
   pub heads : (s : ℕ) (v : VmArea) → area_at areas s ≡ Some v → IsSlot slab 64 v.head.start.0
   pub sizes : (s : ℕ) (v : VmArea) → area_at areas s ≡ Some v → v.head.size ≡ 64
   pub runs : (s : ℕ) (v : VmArea) → area_at areas s ≡ Some v → IsRun pages v
   pub heads_differ : (s t : ℕ) (v w : VmArea) → area_at areas s ≡ Some v → area_at areas t ≡ Some w → v.head.start.0 ≡ w.head.start.0 → s ≡ t
   pub areas_differ : (s t : ℕ) (v w : VmArea) → area_at areas s ≡ Some v → area_at areas t ≡ Some w → v.area.start.0 ≡ w.area.start.0 → s ≡ t
+  pub only : (p n : ℕ) → run_from pages Vmalloc p ≡ Some n → HasArea areas p
 
 -- the answer to a request, among these allocations
 abbrev pub vmalloc_answer : ℕ → List Allocation → ℕ → Answer

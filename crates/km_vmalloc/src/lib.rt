@@ -3,6 +3,7 @@
 
 pub mod areas;
 pub mod errors;
+pub mod laws;
 mod parts;
 #[cfg(test)]
 mod tests;

@@ -50,7 +50,7 @@ impl Vmalloc {
     /// No areas, with memory for all that can live at once.
     pub fn new(alloc: Global) -> Result<Vmalloc, NoMemory>
         ensures none { IfOk result (λ m. (s : ℕ) → area_at m s ≡ None) }
-        ensures fits { IfOk result (λ m. (slab : Sheets) (pages : List (Option Run)) → Fits m slab pages) }
+        ensures fits { IfOk result (λ m. (slab : Sheets) (pages : List (Option Run)) → ((p : ℕ) → run_from pages vmalloc_use p ≡ None) → Fits m slab pages) }
         ensures areas { IfOk result (λ m. (used : List Allocation) → All (λ (x : Allocation). is_part x ≡ false) used → AreAreas m used) }
     {
         match vec![in alloc; None; SLOTS] {
