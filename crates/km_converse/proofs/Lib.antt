@@ -1,0 +1,16 @@
+pub mod Slots
+pub mod Hits
+pub mod Links
+pub mod Headed
+pub mod Moves
+pub mod Parts
+pub mod Acts
+pub mod Places
+pub mod Quiet
+pub mod Facts
+pub mod Numbers
+pub mod Events
+pub mod Contents
+pub mod SumNext
+pub mod Sums
+pub mod Ends
