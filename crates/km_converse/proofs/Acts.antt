@@ -1,4 +1,4 @@
-use Rattle.std.proofs.Common.{◌≡◌, ℕ, ◌+◌, ◌*◌, ◌≤◌, ◌<◌, Bool, true, false, not, ◌||◌, ◌==◌, nat_le, length, List, [], ◌∷◌, ◌++◌, Option, Some, None, is_some, if◌then◌else◌, refl, sym, ap, ◌∙◌, subst, arith, inl, inr, eqb-true, ltb-true}
+use Rattle.std.proofs.Common.{◌≡◌, ℕ, ◌+◌, ◌*◌, Bool, true, false, not, ◌==◌, nat_le, List, [], ◌∷◌, Option, Some, None, is_some, if◌then◌else◌, refl, sym, ap, ◌∙◌, subst, arith, inl, inr, eqb-true}
 use Rattle.std.specs.List.{list_any}
 use Rattle.std.proofs.lemmas.Bool.{not-false}
 use Rattle.km_base.specs.declared.acts.Act.{Act}
@@ -8,24 +8,24 @@ use Rattle.km_base.specs.declared.acts.FileCmd.TheVariants.{ScanOn, ScanEvery, C
 use Rattle.km_base.specs.declared.acts.Answer.{Answer}
 use Rattle.km_base.specs.declared.acts.Answer.TheVariants.{Done}
 use Rattle.km_base.specs.declared.acts.Refusal.TheVariants.{BadSize, BadAddress, NotAllocated, NoSlot, NotBoot}
-use Rattle.km_model.specs.History.{Event, History, value_of}
+use Rattle.km_model.specs.History.{Event, History}
 use Rattle.km_model.specs.Memory.{base, in_memory}
-use Rattle.km_model.specs.Blocks.{Block, AtLeast, contains, block_with, changed_where, painted_grey, painted_black, unscanned, is_among}
+use Rattle.km_model.specs.Blocks.{Block, contains, block_with, changed_where, painted_grey, painted_black, unscanned, is_among}
 use Rattle.km_model.specs.Placement.{Allocation, Use, SlotTable, SectionRun, StackPage, SlabBlock, LargeRun, PlainRun, BootRun, HeadBlock, AreaRun, page_start, pages_for, lowest_run, lowest_slab, lowest_slot, area_place, kmalloc_span, kmalloc_use, slot_of_area}
-use Rattle.km_model.specs.Tasks.{Task, task_named, with_register}
+use Rattle.km_model.specs.Tasks.{Task, task_named}
 use Rattle.km_model.specs.World.{World, opening}
 use Rattle.km_model.specs.Past.{Past, world, is_refused}
 use Rattle.km_model.specs.Verdict.{listing_ids}
 use Rattle.km_model.specs.Changes.{world_after_event, world_after_act, world_after_word, world_after_exit, start_of}
 use Rattle.km_model.specs.Answers.{answer, unless, at_place, is_bad_size, is_uneven, is_kmalloc_at, is_plain_at, is_boot_with, part_answer}
 use Rattle.km_model.specs.Follows.{past_of}
-use Rattle.km_laws.specs.Placed.{StackPlaced, is_stack}
+use Rattle.km_laws.specs.Placed.{StackPlaced}
 use Rattle.km_laws.proofs.Lists.{In, each_in, find_in, any_in}
 use Rattle.km_laws.proofs.Placings.{one_at}
 use Rattle.km_laws.proofs.Apart.{PlacedIn, answered_placed}
 use Rattle.km_laws.proofs.Accepted.{unless_open}
 use Rattle.km_laws.proofs.Since.{IsAnswered}
-use Rattle.km_converse.proofs.Slots.{Slots, is_other, no_other_head, no_other_area}
+use Rattle.km_converse.proofs.Slots.{Slots, is_other}
 use Rattle.km_converse.proofs.Headed.{IsKind, Headed, Step, headed_after}
 use Rattle.km_converse.proofs.Moves.{Moves, Paints, stands, made, made_block, painted, emptied, dropped, freed, area_freed, paired}
 use Rattle.km_converse.proofs.Parts.{parted}
@@ -50,17 +50,18 @@ stack_other _ e = absurd cc
 kmalloc_other : (size : ℕ) → is_other (kmalloc_use size) ≡ true
 kmalloc_other size = elim (nat_le size 4096) as (λ q. is_other (if q then SlabBlock else LargeRun) ≡ true) [ true ↦ refl | false ↦ refl ]
 
-free_moves : (room : ℕ) (w : World) (a : ℕ) → is_refused (unless (not (list_any (is_kmalloc_at a) w.used)) NotAllocated Done) ≡ false → PlacedIn room w → Slots w.used
+-- what an accepted act says of what it gives back
+kmalloc_others : (room : ℕ) (w : World) (a : ℕ) → is_refused (unless (not (list_any (is_kmalloc_at a) w.used)) NotAllocated Done) ≡ false → PlacedIn room w
     → ((x : Allocation) → In x w.used → x.start ≡ a → is_other x.«use» ≡ true)
-free_moves room w a ok p slots =
+kmalloc_others room w a ok p =
     let u = unless_open (not (list_any (is_kmalloc_at a) w.used)) NotAllocated Done ok in
     let y = any_in (is_kmalloc_at a) w.used (not-false (list_any (is_kmalloc_at a) w.used) u.0) in
     let k = kmalloc_kind y.0.«use» (y.0.start == a) y.2 in
     others room w y.0 a p y.1 (eqb-true y.0.start a k.0) k.1
 
-pages_moves : (room : ℕ) (w : World) (a : ℕ) → is_refused (unless (not (list_any (is_plain_at a) w.used)) NotAllocated Done) ≡ false → PlacedIn room w → Slots w.used
+plain_others : (room : ℕ) (w : World) (a : ℕ) → is_refused (unless (not (list_any (is_plain_at a) w.used)) NotAllocated Done) ≡ false → PlacedIn room w
     → ((x : Allocation) → In x w.used → x.start ≡ a → is_other x.«use» ≡ true)
-pages_moves room w a ok p slots =
+plain_others room w a ok p =
     let u = unless_open (not (list_any (is_plain_at a) w.used)) NotAllocated Done ok in
     let y = any_in (is_plain_at a) w.used (not-false (list_any (is_plain_at a) w.used) u.0) in
     let k = plain_kind y.0.«use» (y.0.start == a) y.2 in
@@ -73,16 +74,18 @@ exit_moves room w name (Some t) e p slots =
     let s = each_in (StackPlaced w.used) w.tasks t p.stacks_in f.1 in
     dropped w t.stack (others room w s.0 t.stack p s.1 s.3 (stack_other s.0.«use» s.2)) slots
 
-vmalloc_moves : (words room : ℕ) (w : World) (size head area : ℕ)
+-- a vmalloc finds a slot
+slot_free : (words : ℕ) (w : World) (size : ℕ)
     → is_refused (unless (is_bad_size 1048576 size) BadSize (unless (lowest_slot w.used == 512) NoSlot (at_place (area_place words w.used size)))) ≡ false → (lowest_slot w.used == 512) ≡ false
-vmalloc_moves words room w size head area ok =
+slot_free words w size ok =
     let u = unless_open (is_bad_size 1048576 size) BadSize (unless (lowest_slot w.used == 512) NoSlot (at_place (area_place words w.used size))) ok in
     (unless_open (lowest_slot w.used == 512) NoSlot (at_place (area_place words w.used size)) u.2).0
 
-part_moves : (words room : ℕ) (w : World) (a size : ℕ)
+-- a part is one of boot memory
+part_boot : (words : ℕ) (w : World) (a size : ℕ)
     → is_refused (unless (not (in_memory words a)) BadAddress (unless (is_uneven size) BadSize (unless (not (list_any (is_boot_with a) w.used)) NotBoot (part_answer (block_with w.blocks a) (a + size))))) ≡ false
     → list_any (is_boot_with a) w.used ≡ true
-part_moves words room w a size ok =
+part_boot words w a size ok =
     let u = unless_open (not (in_memory words a)) BadAddress (unless (is_uneven size) BadSize (unless (not (list_any (is_boot_with a) w.used)) NotBoot (part_answer (block_with w.blocks a) (a + size)))) ok in
     let v = unless_open (is_uneven size) BadSize (unless (not (list_any (is_boot_with a) w.used)) NotBoot (part_answer (block_with w.blocks a) (a + size))) u.2 in
     let t = unless_open (not (list_any (is_boot_with a) w.used)) NotBoot (part_answer (block_with w.blocks a) (a + size)) v.2 in
@@ -116,16 +119,16 @@ act_moves words room past listed (TaskStart name) v s e ok p p' k = made (world 
 act_moves words room past listed (TaskExit name) v s e ok p p' k = exit_moves room (world past) name (task_named (world past).tasks name) refl p k
 act_moves words room past listed (Kmalloc size) v s e ok p p' k =
     made_block room (world past).enabled (world past) (kmalloc_use size) (start_of s) (kmalloc_span size) (kmalloc_span size) 1 (kmalloc_other size) k p'
-act_moves words room past listed (Kfree a) v s e ok p p' k = freed (world past) a (free_moves room (world past) a (subst (λ (t : Answer). is_refused t ≡ false) e ok) p k) k
+act_moves words room past listed (Kfree a) v s e ok p p' k = freed (world past) a (kmalloc_others room (world past) a (subst (λ (t : Answer). is_refused t ≡ false) e ok) p) k
 act_moves words room past listed (Pages n) v s e ok p p' k = made (world past) (record { «use» = PlainRun; start = start_of s; size = 4096 * n }) refl k
-act_moves words room past listed (FreePages a) v s e ok p p' k = dropped (world past) a (pages_moves room (world past) a (subst (λ (t : Answer). is_refused t ≡ false) e ok) p k) k
+act_moves words room past listed (FreePages a) v s e ok p p' k = dropped (world past) a (plain_others room (world past) a (subst (λ (t : Answer). is_refused t ≡ false) e ok) p) k
 act_moves words room past listed (VmTake size) v s e ok p p' k =
     paired room (world past).enabled (world past) size (lowest_slab (world past).used 64) (start_of s)
-    (vmalloc_moves words room (world past) size 0 0 (subst (λ (t : Answer). is_refused t ≡ false) e ok)) k p'
+    (slot_free words (world past) size (subst (λ (t : Answer). is_refused t ≡ false) e ok)) k p'
 act_moves words room past listed (VmGive a) v s e ok p p' k = area_freed room (world past) a (slot_of_area (world past).used a) p refl k
 act_moves words room past listed (BootMem size) v s e ok p p' k = made_block room (world past).enabled (world past) BootRun (start_of s) (4096 * pages_for size) size 0 refl k p'
 act_moves words room past listed (FreePart a size) v s e ok p p' k =
-    parted room (world past) a size (block_with (world past).blocks a) (part_moves words room (world past) a size (subst (λ (t : Answer). is_refused t ≡ false) e ok)) refl p k p'
+    parted room (world past) a size (block_with (world past).blocks a) (part_boot words (world past) a size (subst (λ (t : Answer). is_refused t ≡ false) e ok)) refl p k p'
 act_moves words room past listed (NotLeak a) v s e ok p p' k = painted (world past) _ painted_grey grey_paints k
 act_moves words room past listed (Ignore a) v s e ok p p' k = painted (world past) _ painted_black black_paints k
 act_moves words room past listed (NoScan a) v s e ok p p' k = painted (world past) _ unscanned (λ b. (refl, refl, refl, refl, inl refl)) k

@@ -1,4 +1,4 @@
-use Rattle.std.proofs.Common.{◌≡◌, ℕ, suc, ◌+◌, ◌*◌, ◌/◌, ◌≤◌, ◌<◌, ◌==◌, Bool, true, false, ◌&&◌, ◌||◌, nat_le, nat_lt, List, [], ◌∷◌, Option, Some, None, refl, sym, ◌∙◌, ap, subst, arith, ◌⊎◌, inl, inr, eqb-true, eq-eqb, leb-true, ltb-true, not, ◌++◌, if◌then◌else◌}
+use Rattle.std.proofs.Common.{◌≡◌, ℕ, ◌+◌, ◌*◌, ◌≤◌, ◌<◌, ◌==◌, Bool, true, false, ◌||◌, nat_le, nat_lt, List, [], ◌∷◌, Option, Some, None, refl, sym, ◌∙◌, ap, subst, arith, ◌⊎◌, inl, inr, eq-eqb, leb-true, ltb-true, not, ◌++◌, if◌then◌else◌}
 use Rattle.std.proofs.lemmas.Bool.{both_ways, and_parts}
 use Rattle.km_model.specs.Blocks.{contains}
 use Rattle.km_model.specs.Tasks.{Task}
@@ -9,22 +9,19 @@ use Rattle.km_model.proofs.Worlds.{Closed, event_keeps}
 use Rattle.km_model.proofs.Whites.{white_by}
 use Rattle.km_model.specs.History.{Event, History}
 use Rattle.km_model.specs.Memory.{base}
-use Rattle.km_model.specs.Blocks.{Block, Minimum, Black, AtLeast, needs}
-use Rattle.km_model.specs.Placement.{Allocation, Use, SlotTable, StackPage, BootRun, AreaRun}
-use Rattle.km_model.specs.World.{World}
-use Rattle.km_model.specs.Past.{Past, Place, ScanLoad, world, loads}
-use Rattle.km_model.specs.Scan.{next, scan_load, tally, hit_of, found_changed, ripe_by_hit, ripe_in, first_queue, second_queue}
+use Rattle.km_model.specs.Blocks.{Block, Minimum}
+use Rattle.km_model.specs.Placement.{Allocation, Use, SlotTable, StackPage, BootRun}
+use Rattle.km_model.specs.Past.{Place, ScanLoad, world, loads}
+use Rattle.km_model.specs.Scan.{next, ripe_in}
 use Rattle.km_model.specs.Follows.{past_of}
-use Rattle.km_laws.specs.Placed.{BlockPlaced, StackPlaced, is_stack, is_boot}
+use Rattle.km_laws.specs.Placed.{BlockPlaced, StackPlaced}
 use Rattle.km_laws.proofs.Lists.{In, Each, each_in, each_push, each_filter, each_map, in_push_cases, rising_in}
-use Rattle.km_laws.proofs.Pages.{Sound}
 use Rattle.km_laws.proofs.Placings.{one_with}
 use Rattle.km_laws.proofs.Apart.{PlacedIn}
 use Rattle.km_laws.proofs.Since.{IsAnswered}
 use Rattle.km_laws.proofs.Steps.{fits, next_good, ripe_facts}
 use Rattle.km_model.proofs.Whites.{white_in}
 use Rattle.km_converse.proofs.Slots.{slot_area}
-use Rattle.km_converse.proofs.Hits.{IsSlotWord}
 use Rattle.km_converse.proofs.Links.{AreDistinct, HeadsFit, HeadsKept, PlaceFits}
 use Rattle.km_converse.proofs.Headed.{IsPainted, heads_fit, heads_kept}
 use Rattle.km_converse.proofs.Acts.{placed, headed, stepped}

@@ -1,13 +1,13 @@
-use Rattle.std.proofs.Common.{◌≡◌, ℕ, suc, ◌+◌, ◌*◌, ◌<◌, ◌≤◌, nat_lt, true, List, [], ◌∷◌, Option, Some, None, refl, sym, ap, ◌∙◌, subst, arith, ◌⊎◌, inl, inr, ltb-true}
+use Rattle.std.proofs.Common.{◌≡◌, ℕ, suc, ◌+◌, ◌*◌, ◌<◌, ◌≤◌, nat_lt, true, List, [], Some, None, sym, ap, ◌∙◌, subst, arith, ◌⊎◌, inl, inr, ltb-true}
 use Rattle.km_model.specs.Memory.{base}
 use Rattle.km_model.specs.Blocks.{Block, Minimum, Black, AtLeast, can_be_reported}
-use Rattle.km_model.specs.Placement.{Allocation, SlotTable, HeadBlock, AreaRun, slot_of_area}
-use Rattle.km_model.specs.Tasks.{Task}
+use Rattle.km_model.specs.Placement.{Allocation, HeadBlock, AreaRun, slot_of_area}
 use Rattle.km_model.specs.World.{World}
+use Rattle.km_model.proofs.Cases.{none_some, some_same}
 use Rattle.km_laws.specs.Placed.{BlockPlaced}
 use Rattle.km_laws.proofs.Lists.{In, each_in}
 use Rattle.km_laws.proofs.Pages.{Sound}
-use Rattle.km_laws.proofs.Placings.{Placed, one_with, one_at}
+use Rattle.km_laws.proofs.Placings.{one_with, one_at}
 use Rattle.km_laws.proofs.Apart.{PlacedIn}
 use Rattle.km_converse.proofs.Slots.{Slots, is_other, no_other_head, no_head_area, same_area, area_slot}
 use Rattle.km_converse.proofs.Links.{AreDistinct, HeadsFit, HeadsKept}
@@ -62,12 +62,6 @@ pub record Step (used : List Allocation) (bs : List Block) (registered : ℕ) (a
   pub blocks_by : (b : Block) → In b cs → Old bs b ⊎ ((registered ≤ b.id) × IsKind after cs b)
   pub stays : (c : Block) → In c bs → Stays cs c ⊎ Goes used after cs c
 
-some_nat : (m n : ℕ) → Some m ≡ Some n → m ≡ n
-some_nat m n e = cc
-
-none_some : (n : ℕ) → None ≡ Some n → ⊥
-none_some n e = cc
-
 no_member : (b : Block) (bs : List Block) → bs ≡ [] → In b bs → ⊥
 no_member b bs e i = subst (λ xs. In b xs) e i
 
@@ -77,7 +71,7 @@ is_head used bs c a k e = go k.head
   where
     go : (c.excess ≡ None) ⊎ IsHead used c → (h : IsHead used c) × (h.area.start ≡ a)
     go (inl none) = absurd (none_some a (sym none ∙ e))
-    go (inr h) = (h, some_nat h.area.start a (sym h.excess ∙ e))
+    go (inr h) = (h, some_same h.area.start a (sym h.excess ∙ e))
 
 painted_more : (m n : Minimum) → (n ≡ m) ⊎ IsPainted n → IsPainted m → IsPainted n
 painted_more m n (inl same) (inl grey) = inl (same ∙ grey)

@@ -11,6 +11,7 @@ use Rattle.km_model.specs.Scan.{is_white, is_holder, hit_white, hit_block, hit_o
 use Rattle.km_model.specs.Mention.{head_of, is_slot_of, is_own_link, names}
 use Rattle.km_model.proofs.Cases.{none_some, some_same, if_some}
 use Rattle.km_laws.proofs.Lists.{In, find_in, none_in}
+use Rattle.km_laws.proofs.Hits.{option_here}
 use Rattle.km_converse.specs.Converse.{is_clear}
 
 -- where a list has a member that passes, some member passes
@@ -20,10 +21,6 @@ any_from test xs x i e =
       | inl yes' ↦ yes'
       | inr none ↦ absurd (both_ways (test x) (none_in test xs x none i) e)
     ]
-
-pub option_some : (o : Option ℕ) (n : ℕ) → option_is o n ≡ true → o ≡ Some n
-option_some None n e = cc
-option_some (Some m) n e = ap (λ (k : ℕ). Some k) (eqb-true m n e)
 
 -- a value points into the block that it hits
 pub record IsDirect (past : Past) (place : Place) (value id : ℕ) : Type 0 where
@@ -127,7 +124,7 @@ link_of w b a v (Some c) f h =
     record {
       head = c;
       live = at.1;
-      excess = option_some c.excess b.start at.0;
+      excess = option_here c.excess b.start at.0;
       one = parts.0;
       which = elim (cases_Bool (is_slot_of w.used b a && points_into v c)) [
         | inl both ↦ let halves = and_parts (is_slot_of w.used b a) (points_into v c) both in inl (slot_word w b a (slot_of_area w.used b.start) refl halves.0, halves.1)

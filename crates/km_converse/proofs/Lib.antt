@@ -13,4 +13,12 @@ pub mod Events
 pub mod Contents
 pub mod SumNext
 pub mod Sums
+pub mod Members
+pub mod Kept
 pub mod Ends
+pub mod Forgotten
+pub mod Scannable
+pub mod Suffixes
+pub mod Told
+pub mod ToldLaw
+pub mod ExampleRing

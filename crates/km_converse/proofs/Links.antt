@@ -1,7 +1,8 @@
-use Rattle.std.proofs.Common.{◌≡◌, ℕ, zero, suc, ◌+◌, ◌*◌, ◌≤◌, ◌<◌, ◌==◌, Bool, true, false, ◌&&◌, ◌||◌, not, cond, nat_lt, List, [], ◌∷◌, Some, None, refl, sym, ◌∙◌, ap, subst, arith, ◌⊎◌, inl, inr, eqb-true, eq-eqb, lt-ltb, le-leb, ltb-true}
-use Rattle.std.proofs.lemmas.Bool.{and_from, or_left, or_right, both_ways, false_from_ne_true}
+use Rattle.std.proofs.Common.{◌≡◌, ℕ, zero, suc, ◌+◌, ◌*◌, ◌≤◌, ◌<◌, ◌==◌, Bool, true, false, ◌&&◌, not, cond, nat_lt, List, [], ◌∷◌, Some, None, refl, sym, ◌∙◌, ap, subst, arith, ◌⊎◌, inl, inr, eqb-true, eq-eqb, lt-ltb, le-leb, ltb-true}
+use Rattle.std.proofs.lemmas.Bool.{and_from, or_left, or_right, both_ways}
 use Rattle.km_laws.proofs.Lists.{count_by-count}
-use Rattle.km_laws.proofs.Hits.{hits}
+use Rattle.km_laws.proofs.Hits.{hits, option_here}
+use Rattle.km_model.proofs.Cases.{none_some, some_same}
 use Rattle.km_base.specs.Spans.{untagged}
 use Rattle.km_model.specs.Memory.{base}
 use Rattle.km_model.specs.Blocks.{Block, Minimum, Black, AtLeast, points_into, contains, option_is, needs, is_among, can_be_reported}
@@ -13,7 +14,7 @@ use Rattle.km_model.specs.Mention.{names}
 use Rattle.km_laws.proofs.Lists.{In}
 use Rattle.km_laws.proofs.Whites.{white_in, white_by, white_is}
 use Rattle.km_converse.specs.Converse.{is_clear}
-use Rattle.km_converse.proofs.Hits.{any_from, option_some, hit_is, IsSlotWord, IsLinked, clear_link}
+use Rattle.km_converse.proofs.Hits.{any_from, hit_is, IsSlotWord, IsLinked, clear_link}
 
 -- a load of the second or the fourth phase
 abbrev pub IsGrey : Place → Type 0
@@ -81,7 +82,7 @@ pub some_hit : (id : ℕ) (ls : List ScanLoad) → 1 ≤ hits id ls → (l : Sca
 some_hit id [] le = absurd (omega (arith, le))
 some_hit id (l ∷ ls) le =
     elim (option_is l.hit id) as (λ q. option_is l.hit id ≡ q → 1 ≤ cond q 1 0 + hits id ls → (k : ScanLoad) × In k (l ∷ ls) × (k.hit ≡ Some id)) [
-      | true ↦ λ e _. (l, inl refl, option_some l.hit id e)
+      | true ↦ λ e _. (l, inl refl, option_here l.hit id e)
       | false ↦ λ _ f. let rest = some_hit id ls (omega (arith, f)) in (rest.0, inr rest.1, rest.2)
     ] refl le
 
@@ -90,7 +91,7 @@ no_hit id [] none = refl
 no_hit id (l ∷ ls) none =
     let rest : hits id ls ≡ 0 = no_hit id ls (λ k i. none k (inr i)) in
     elim (option_is l.hit id) as (λ q. option_is l.hit id ≡ q → cond q 1 0 + hits id ls ≡ 0) [
-      | true ↦ λ e. absurd (none l (inl refl) (option_some l.hit id e))
+      | true ↦ λ e. absurd (none l (inl refl) (option_here l.hit id e))
       | false ↦ λ _. omega (arith, rest)
     ] refl
 
@@ -184,11 +185,8 @@ module _ (ids : List ℕ) (past : Past) (place : Place) (value : ℕ) (distinct 
       let two : place.phase ≡ 2 = at.0 in
       white_is past c ∙ white_from (tally_in (loads past) c.id) (changed_in (loads past) c.id) c.minimum 1 (one_is c.minimum one) (omega (arith, none, same)) (fit.early (omega (arith, two)) c.id)
     where
-      some_nat : (x y : ℕ) → Some x ≡ Some y → x ≡ y
-      some_nat x y f = cc
-
       same_slot : {a : ℕ} → IsSlotWord w b a → IsSlotWord w b place.word → a ≡ place.word
-      same_slot s t = let same : s.slot ≡ t.slot = some_nat s.slot t.slot (sym s.taken ∙ t.taken) in s.word ∙ (ap (λ n. base + 8 * n) same ∙ sym t.word)
+      same_slot s t = let same : s.slot ≡ t.slot = some_same s.slot t.slot (sym s.taken ∙ t.taken) in s.word ∙ (ap (λ n. base + 8 * n) same ∙ sym t.word)
 
       one_is : (q : Minimum) → (elim q as (λ _. Bool) [ Black ↦ false | AtLeast m ↦ m == 1 ]) ≡ true → q ≡ AtLeast 1
       one_is Black f = cc
@@ -229,10 +227,7 @@ module _ (ids : List ℕ) (past : Past) (place : Place) (value : ℕ) (distinct 
           let same : x ≡ c = distinct.bytes (untagged value) x c j k p q in
           let none : x.excess ≡ None = heads.none x c j k e in
           let clash : None ≡ Some x.start = sym none ∙ (ap (λ (y : Block). y.excess) same ∙ e) in
-          no_some x.start clash
-        where
-          no_some : (n : ℕ) → None ≡ Some n → ⊥
-          no_some n f = cc
+          none_some x.start clash
 
   -- a load that hits the head of one is of its slot
   pub hit_slots : (b c : Block) → In b w.blocks → In c w.blocks → is_among b.id ids ≡ true → c.excess ≡ Some b.start → l.hit ≡ Some c.id → IsSlotLoad w b l
@@ -253,11 +248,8 @@ module _ (ids : List ℕ) (past : Past) (place : Place) (value : ℕ) (distinct 
         | inr passed ↦
             let same : passed.block ≡ c = distinct.ids passed.block c passed.there j passed.same in
             let excess : (passed.head).excess ≡ Some c.start = subst (λ (x : Block). (passed.head).excess ≡ Some x.start) same passed.excess in
-            absurd (no_some b.start (sym (heads.none c passed.head j passed.live excess) ∙ e))
+            absurd (none_some b.start (sym (heads.none c passed.head j passed.live excess) ∙ e))
       ]
-    where
-      no_some : (n : ℕ) → None ≡ Some n → ⊥
-      no_some n f = cc
 
   -- what a load keeps
   pub quiet_load : AreQuiet ids w (l ∷ loads past)
@@ -271,7 +263,7 @@ module _ (ids : List ℕ) (past : Past) (place : Place) (value : ℕ) (distinct 
       more b i m =
           elim (option_is l.hit b.id) as (λ q. option_is l.hit b.id ≡ q → cond q 1 0 + hits b.id (loads past) ≤ 1) [
             | true ↦ λ e.
-                let k = hit_links b i m (option_some l.hit b.id e) in
+                let k = hit_links b i m (option_here l.hit b.id e) in
                 let none : hits b.id (loads past) ≡ 0 = no_hit b.id (loads past) (λ x n h.
                 let before = old.linked b i m x n h in
                 let same : before.head ≡ k.head = heads.one before.head k.head b.start before.live k.live before.excess k.excess in

@@ -1,20 +1,17 @@
-use Rattle.std.proofs.Common.{◌≡◌, ℕ, zero, suc, ◌+◌, ◌-◌, ◌*◌, ◌<◌, ◌≤◌, Bool, true, false, not, ◌&&◌, ◌==◌, nat_le, nat_lt, map, List, [], ◌∷◌, ◌++◌, Option, Some, None, if◌then◌else◌, refl, sym, ap, ◌∙◌, subst, arith, ◌⊎◌, inl, inr, eqb-true, eq-eqb, ltb-true, leb-true, ne_eqb}
+use Rattle.std.proofs.Common.{◌≡◌, ℕ, zero, suc, ◌+◌, ◌*◌, ◌<◌, ◌≤◌, Bool, true, false, not, ◌==◌, List, [], ◌∷◌, ◌++◌, Option, Some, None, if◌then◌else◌, refl, sym, ap, ◌∙◌, subst, arith, ◌⊎◌, inl, inr, eqb-true, eq-eqb}
 use Rattle.std.specs.List.{list_any}
-use Rattle.std.proofs.lemmas.Bool.{and_parts, not-true, both_ways, cases_Bool, eqb-false}
-use Rattle.km_model.specs.Memory.{base}
-use Rattle.km_model.specs.Blocks.{Block, Black, AtLeast, contains, is_within, block_with, without_block, changed_where, painted_grey}
-use Rattle.km_model.specs.Placement.{Allocation, Use, SlotTable, SlabBlock, LargeRun, PlainRun, BootRun, StackPage, HeadBlock, AreaRun, pages_for, least_from, has_slot, lowest_slot, without_allocation, slot_of_area, head_with}
+use Rattle.std.proofs.lemmas.Bool.{not-true, both_ways, cases_Bool, eqb-false}
+use Rattle.km_model.specs.Blocks.{Block, AtLeast, without_block, changed_where}
+use Rattle.km_model.specs.Placement.{Allocation, Use, HeadBlock, AreaRun, pages_for, least_from, has_slot, lowest_slot, without_allocation, slot_of_area, head_with}
 use Rattle.km_model.specs.Tasks.{Task}
-use Rattle.km_model.specs.World.{World, next_block, with_block, with_rest, with_allocation}
-use Rattle.km_model.specs.Changes.{with_vmalloc, world_after_vfree, world_without, world_without_part}
-use Rattle.km_model.specs.Answers.{is_boot_with}
-use Rattle.km_laws.specs.Placed.{BlockPlaced}
-use Rattle.km_laws.proofs.Lists.{In, each_in, in_push_cases, in_push_left, in_push_right, in_filter, filter_in, in_map, map_in, find_in, any_in, none_in}
+use Rattle.km_model.specs.World.{World, next_block, with_block, with_allocation}
+use Rattle.km_model.specs.Changes.{with_vmalloc, world_after_vfree, world_without}
+use Rattle.km_laws.proofs.Lists.{In, each_in, in_push_cases, in_push_left, in_push_right, in_filter, filter_in, in_map, map_in, none_in}
 use Rattle.km_laws.proofs.Pages.{Sound}
 use Rattle.km_laws.proofs.Placings.{Placed, one_with, one_at}
 use Rattle.km_laws.proofs.Apart.{PlacedIn}
-use Rattle.km_converse.proofs.Slots.{Slots, is_other, no_other_area, no_other_table, no_head_area, no_head_table, no_area_table, kept_in, was_in, slots_grow, slots_drop, slots_pair, slots_unpair, slot_area, slot_head}
-use Rattle.km_converse.proofs.Headed.{IsPainted, Old, IsHead, IsKind, Stays, Goes, Step}
+use Rattle.km_converse.proofs.Slots.{Slots, is_other, no_other_area, no_other_table, no_head_area, no_head_table, no_area_table, was_in, slots_grow, slots_drop, slots_pair, slots_unpair, slot_area, slot_head}
+use Rattle.km_converse.proofs.Headed.{IsPainted, Old, IsKind, Step}
 
 -- what an event does to allocations and blocks
 abbrev pub Moves : World → World → Type 0

@@ -1,5 +1,5 @@
-use Rattle.std.proofs.Common.{◌≡◌, ℕ, ◌+◌, ◌≤◌, ◌<◌, ◌==◌, Bool, true, false, ◌&&◌, ◌||◌, List, [], ◌∷◌, length, Option, Some, None, refl, sym, ◌∙◌, ap, subst, arith, ◌⊎◌, inl, inr, eqb-true, eq-eqb, if◌then◌else◌}
-use Rattle.std.proofs.lemmas.Bool.{cases_Bool, or_parts, or_from, both_ways, and_parts, false_from_ne_true}
+use Rattle.std.proofs.Common.{◌≡◌, ℕ, ◌+◌, ◌≤◌, ◌<◌, ◌==◌, Bool, true, false, ◌&&◌, ◌||◌, List, [], ◌∷◌, length, Option, Some, None, refl, sym, ◌∙◌, ap, subst, arith, inl, inr, eqb-true, if◌then◌else◌}
+use Rattle.std.proofs.lemmas.Bool.{cases_Bool, or_from, both_ways, and_parts, false_from_ne_true}
 use Rattle.km_base.specs.declared.acts.Act.{Act}
 use Rattle.km_base.specs.declared.acts.Act.TheVariants.{Step, File, AutoBegin}
 use Rattle.km_base.specs.declared.acts.FileCmd.TheVariants.{Scan}
@@ -25,7 +25,7 @@ pub completed_ends : (n : ℕ) (s : Answer) → completes_scan n s ≡ true → 
 completed_ends n (Ended k m) e = refl
 completed_ends n _ e = absurd (elim_false e)
 
-begins_ends : (act : Act) (s : Answer) → begins act s ≡ true → ends s ≡ false
+pub begins_ends : (act : Act) (s : Answer) → begins act s ≡ true → ends s ≡ false
 begins_ends (File Scan) Done e = refl
 begins_ends (File Scan) _ e = absurd (elim_false e)
 begins_ends AutoBegin Done e = refl
@@ -160,16 +160,16 @@ since_since P j k (m ∷ past) f =
     ] refl f
 
 -- where scan n was completed before, its end stays
-end_stays : (words : ℕ) (e : Event) (h : History) (n : ℕ) → IsAnswered words (e ∷ h) → was_completed n (past_of h) ≡ true → end_of n (past_of (e ∷ h)) ≡ end_of n (past_of h)
+pub end_stays : (words : ℕ) (e : Event) (h : History) (n : ℕ) → IsAnswered words (e ∷ h) → was_completed n (past_of h) ≡ true → end_of n (past_of (e ∷ h)) ≡ end_of n (past_of h)
 end_stays words e h n a done =
     ap (λ q. elim q as (λ _. Past) [ true ↦ past_of (e ∷ h) | false ↦ end_of n (past_of h) ])
     (false_from_ne_true (ends_scan n e.answer) (λ ended. both_ways (was_completed n (past_of h)) ((scans_fit words h a.1).running n (ended_runs words e h n a ended)).2 done))
 
 -- else it is here
-end_here : (e : Event) (h : History) (n : ℕ) → completes_scan n e.answer ≡ true → end_of n (past_of (e ∷ h)) ≡ past_of (e ∷ h)
+pub end_here : (e : Event) (h : History) (n : ℕ) → completes_scan n e.answer ≡ true → end_of n (past_of (e ∷ h)) ≡ past_of (e ∷ h)
 end_here e h n done = ap (λ q. elim q as (λ _. Past) [ true ↦ past_of (e ∷ h) | false ↦ end_of n (past_of h) ]) (completed_ended n e.answer done).1
 
-completes_now : (e : Event) (h : History) (n : ℕ) → was_completed n (past_of (e ∷ h)) ≡ true → was_completed n (past_of h) ≡ false → completes_scan n e.answer ≡ true
+pub completes_now : (e : Event) (h : History) (n : ℕ) → was_completed n (past_of (e ∷ h)) ≡ true → was_completed n (past_of h) ≡ false → completes_scan n e.answer ≡ true
 completes_now e h n done none = go (completes_scan n e.answer) done
   where
     go : (q : Bool) → (q || was_completed n (past_of h)) ≡ true → q ≡ true

@@ -1,17 +1,17 @@
-use Rattle.std.proofs.Common.{◌≡◌, ℕ, ◌+◌, ◌-◌, ◌<◌, ◌≤◌, Bool, true, false, not, ◌&&◌, ◌==◌, nat_le, nat_lt, List, [], ◌∷◌, ◌++◌, Option, Some, None, if◌then◌else◌, refl, sym, ap, ◌∙◌, subst, arith, ◌⊎◌, inl, inr, eqb-true, eq-eqb, ltb-true, leb-true}
+use Rattle.std.proofs.Common.{◌≡◌, ℕ, ◌+◌, ◌-◌, ◌<◌, ◌≤◌, Bool, true, false, ◌&&◌, ◌==◌, nat_le, nat_lt, List, [], ◌∷◌, ◌++◌, Option, Some, None, if◌then◌else◌, refl, sym, subst, arith, ◌⊎◌, inl, inr, eqb-true, ltb-true, leb-true}
 use Rattle.std.specs.List.{list_any}
-use Rattle.std.proofs.lemmas.Bool.{and_parts, cases_Bool, not-true, both_ways}
+use Rattle.std.proofs.lemmas.Bool.{and_parts, cases_Bool}
 use Rattle.km_model.specs.Blocks.{Block, contains, is_within, block_with, without_block}
 use Rattle.km_model.specs.Placement.{Allocation, Use, BootRun}
 use Rattle.km_model.specs.World.{World, with_rest}
 use Rattle.km_model.specs.Changes.{world_without_part}
 use Rattle.km_model.specs.Answers.{is_boot_with}
 use Rattle.km_laws.specs.Placed.{BlockPlaced}
-use Rattle.km_laws.proofs.Lists.{In, each_in, in_push_cases, in_push_left, in_push_right, in_filter, filter_in, find_in, any_in}
-use Rattle.km_laws.proofs.Placings.{Placed, one_with}
+use Rattle.km_laws.proofs.Lists.{In, each_in, in_push_cases, in_push_left, find_in, any_in}
+use Rattle.km_laws.proofs.Placings.{one_with}
 use Rattle.km_laws.proofs.Apart.{PlacedIn}
 use Rattle.km_converse.proofs.Slots.{Slots, is_other}
-use Rattle.km_converse.proofs.Headed.{Old, IsKind, Stays, Goes, Step, sized}
+use Rattle.km_converse.proofs.Headed.{Old, Stays}
 use Rattle.km_converse.proofs.Moves.{Moves, itself, other_kind, stands, was_block, still_block}
 
 -- what is left where a part of a block was given back: the other blocks, and new ones in the same allocation

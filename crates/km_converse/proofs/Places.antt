@@ -21,7 +21,8 @@ use Rattle.km_laws.proofs.Runs.{newest, made_same, made_more}
 use Rattle.km_laws.proofs.Loads.{GoesOn, Good, GoodGrey}
 use Rattle.km_laws.proofs.Steps.{fits, next_good}
 use Rattle.km_laws.proofs.Apart.{PlacedIn, stack_kind}
-use Rattle.km_converse.proofs.Hits.{IsSlotWord, option_some}
+use Rattle.km_converse.proofs.Hits.{IsSlotWord}
+use Rattle.km_laws.proofs.Hits.{option_here}
 use Rattle.km_converse.proofs.Links.{IsGrey, AreDistinct, PlaceFits}
 use Rattle.km_converse.proofs.Headed.{sized}
 
@@ -138,13 +139,13 @@ none_changed [] id late none = refl
 none_changed (l ∷ ls) id late none =
     or_from (option_is l.changed id) (changed_in ls id)
     (false_from_ne_true (option_is l.changed id) (λ e.
-    let three = late l (inl refl) id (option_some l.changed id e) in
+    let three = late l (inl refl) id (option_here l.changed id e) in
     let m = made_in 3 l.place.holder l (l ∷ ls) (inl refl) three refl in
     let z = none l.place.holder in omega (arith, m, z)))
     (none_changed ls id (λ k i. late k (inr i)) (λ x. elim (made_more 3 x l ls) [ inl same ↦ sym same ∙ none x | inr more ↦ absurd (let z = none x in omega (arith, more, z)) ]))
 
 -- the phase of a good place isn't before that of the last load
-good_later : (q1 q2 : List ℕ) (ls : List ScanLoad) (bs : List Block) (ts : List Task) (place : Place) → Good q1 q2 ls bs ts place → phase_of (newest ls) ≤ place.phase
+pub good_later : (q1 q2 : List ℕ) (ls : List ScanLoad) (bs : List Block) (ts : List Task) (place : Place) → Good q1 q2 ls bs ts place → phase_of (newest ls) ≤ place.phase
 good_later q1 q2 ls bs ts place (inl g) = let e = g.0 in let le = g.9 in omega (arith, e, le)
 good_later q1 q2 ls bs ts place (inr (inl g)) = let e = g.0 in let le = g.10 in omega (arith, e, le)
 good_later q1 q2 ls bs ts place (inr (inr (inl g))) = let e = g.0 in let le = g.9 in omega (arith, e, le)

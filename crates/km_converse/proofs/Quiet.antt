@@ -1,19 +1,15 @@
-use Rattle.std.proofs.Common.{◌≡◌, ℕ, ◌+◌, ◌≤◌, ◌<◌, ◌==◌, Bool, true, false, ◌&&◌, nat_lt, List, [], ◌∷◌, Option, Some, None, refl, sym, ◌∙◌, ap, subst, arith, inl, inr, eqb-true, eq-eqb, ltb-true, MatchBool}
+use Rattle.std.proofs.Common.{◌≡◌, ℕ, ◌<◌, ◌==◌, Bool, true, false, ◌&&◌, nat_lt, List, Option, Some, None, refl, sym, subst, arith, inl, inr, eqb-true, eq-eqb, ltb-true}
 use Rattle.std.proofs.lemmas.Bool.{and_parts, both_ways, false_from_ne_true}
-use Rattle.km_model.specs.History.{Event, History}
+use Rattle.km_model.specs.History.{History}
 use Rattle.km_model.specs.Blocks.{Block, block_of, is_among, can_be_reported}
-use Rattle.km_model.specs.Placement.{slot_of_area}
-use Rattle.km_model.specs.World.{World}
-use Rattle.km_model.specs.Past.{Past, Moment, Place, ScanLoad, world, loads, begins}
+use Rattle.km_model.specs.Past.{Past, Place, world, loads}
 use Rattle.km_model.specs.Scan.{next, first_queue, second_queue, changed_in}
-use Rattle.km_model.specs.Follows.{Follows, past_of}
-use Rattle.km_model.specs.Headline.{IsMemorySize, is_live_unpainted}
-use Rattle.km_laws.proofs.Hits.{hits}
+use Rattle.km_model.specs.Follows.{past_of}
+use Rattle.km_model.specs.Headline.{is_live_unpainted}
 use Rattle.km_laws.proofs.Lists.{In, each_in, find_in}
 use Rattle.km_laws.proofs.Whites.{white_in}
 use Rattle.km_laws.proofs.Runs.{QueuedGrey}
 use Rattle.km_laws.proofs.Steps.{fits, next_good}
-use Rattle.km_converse.specs.Converse.{IsClear}
 use Rattle.km_converse.proofs.Links.{AreDistinct, HeadsFit, AreQuiet, quiet_white}
 
 -- they are live

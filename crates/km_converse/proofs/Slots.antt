@@ -1,8 +1,8 @@
-use Rattle.std.proofs.Common.{◌≡◌, ℕ, ◌+◌, ◌*◌, ◌<◌, ◌≤◌, Bool, true, false, not, ◌==◌, List, [], ◌∷◌, ◌++◌, Option, Some, None, if◌then◌else◌, refl, sym, ap, ◌∙◌, subst, arith, ◌⊎◌, inl, inr, ne_eqb, eqb-true, eq-eqb}
+use Rattle.std.proofs.Common.{◌≡◌, ℕ, ◌<◌, Bool, true, false, not, ◌==◌, List, [], ◌∷◌, ◌++◌, Option, Some, None, if◌then◌else◌, refl, sym, ap, ◌∙◌, subst, ◌⊎◌, inl, inr, ne_eqb, eqb-true, eq-eqb}
 use Rattle.std.proofs.lemmas.Bool.{not_from_false, not-true, both_ways}
 use Rattle.km_model.specs.Memory.{base}
 use Rattle.km_model.specs.Placement.{Allocation, Use, SlotTable, HeadBlock, AreaRun, without_allocation, slot_of_area, head_with}
-use Rattle.km_model.proofs.Cases.{elim_false}
+use Rattle.km_model.proofs.Cases.{elim_false, none_some, some_same}
 use Rattle.km_laws.proofs.Lists.{In, in_filter, filter_in, in_push_cases, in_push_left, in_push_right}
 
 -- whether an allocation is neither a head, nor an area, nor the table of slots
@@ -185,12 +185,9 @@ area_of : (used : List Allocation) (x : Allocation) (a s : ℕ) (u : Use) → x.
     → ((x.start ≡ a) × (x.«use» ≡ AreaRun s)) ⊎ (slot_of_area used a ≡ Some s)
 area_of used x a s (AreaRun t) e h =
     elim (x.start == a) as (λ q. (x.start == a) ≡ q → (if q then Some t else slot_of_area used a) ≡ Some s → ((x.start ≡ a) × (x.«use» ≡ AreaRun s)) ⊎ (slot_of_area used a ≡ Some s)) [
-      | true ↦ λ f g. inl (eqb-true x.start a f, e ∙ ap AreaRun (some t s g))
+      | true ↦ λ f g. inl (eqb-true x.start a f, e ∙ ap AreaRun (some_same t s g))
       | false ↦ λ f g. inr g
     ] refl h
-  where
-    some : (m n : ℕ) → Some m ≡ Some n → m ≡ n
-    some m n g = cc
 area_of used x a s _ e h = inr h
 
 pub slot_area : (used : List Allocation) (a s : ℕ) → slot_of_area used a ≡ Some s → (y : Allocation) × In y used × (y.start ≡ a) × (y.«use» ≡ AreaRun s)
@@ -207,12 +204,9 @@ head_of : (used : List Allocation) (x : Allocation) (s a : ℕ) (u : Use) → x.
     → ((x.start ≡ a) × (x.«use» ≡ HeadBlock s)) ⊎ (head_with used s ≡ Some a)
 head_of used x s a (HeadBlock t) e h =
     elim (t == s) as (λ q. (t == s) ≡ q → (if q then Some x.start else head_with used s) ≡ Some a → ((x.start ≡ a) × (x.«use» ≡ HeadBlock s)) ⊎ (head_with used s ≡ Some a)) [
-      | true ↦ λ f g. inl (some x.start a g, e ∙ ap HeadBlock (eqb-true t s f))
+      | true ↦ λ f g. inl (some_same x.start a g, e ∙ ap HeadBlock (eqb-true t s f))
       | false ↦ λ f g. inr g
     ] refl h
-  where
-    some : (m n : ℕ) → Some m ≡ Some n → m ≡ n
-    some m n g = cc
 head_of used x s a _ e h = inr h
 
 pub slot_head : (used : List Allocation) (s a : ℕ) → head_with used s ≡ Some a → (x : Allocation) × In x used × (x.start ≡ a) × (x.«use» ≡ HeadBlock s)
@@ -231,10 +225,7 @@ area_here used x a s e f h =
     (subst (λ v. (elim v as (λ _. Option ℕ) [ AreaRun t ↦ if x.start == a then Some t else slot_of_area used a | _ ↦ slot_of_area used a ]) ≡ None) f h)
   where
     taken : (x.start == a) ≡ true → (if x.start == a then Some s else slot_of_area used a) ≡ None → ⊥
-    taken q k = no_some (subst (λ r. (if r then Some s else slot_of_area used a) ≡ None) q k)
-      where
-        no_some : Some s ≡ None → ⊥
-        no_some k' = cc
+    taken q k = none_some s (sym (subst (λ r. (if r then Some s else slot_of_area used a) ≡ None) q k))
 
 area_later : (used : List Allocation) (x : Allocation) (a : ℕ) (u : Use)
     → (elim u as (λ _. Option ℕ) [ AreaRun t ↦ if x.start == a then Some t else slot_of_area used a | _ ↦ slot_of_area used a ]) ≡ None → slot_of_area used a ≡ None

@@ -1,13 +1,13 @@
-use Rattle.std.proofs.Common.{◌≡◌, ℕ, zero, suc, ◌+◌, ◌-◌, ◌*◌, ◌/◌, ◌<◌, ◌≤◌, ◌==◌, Bool, true, false, ◌&&◌, not, find, nat_lt, map, List, [], ◌∷◌, Option, Some, None, if◌then◌else◌, refl, sym, ◌∙◌, ap, subst, arith, ◌⊎◌, inl, inr, eqb-true, eq-eqb}
-use Rattle.std.proofs.lemmas.Bool.{and_parts, and_from, both_ways, cases_lt, cases_order, cases_eq, false_from_ne_true, ltb-false}
+use Rattle.std.proofs.Common.{◌≡◌, ℕ, suc, ◌+◌, ◌-◌, ◌*◌, ◌/◌, ◌<◌, ◌≤◌, ◌==◌, Bool, true, false, ◌&&◌, find, nat_lt, map, List, [], ◌∷◌, Option, Some, None, if◌then◌else◌, refl, sym, ◌∙◌, ap, subst, arith, ◌⊎◌, inl, inr, eqb-true, eq-eqb}
+use Rattle.std.proofs.lemmas.Bool.{and_parts, and_from, both_ways}
 use Rattle.km_model.specs.History.{History}
 use Rattle.km_model.specs.Memory.{words_from}
 use Rattle.km_model.specs.Blocks.{Block, Black, block_of, words_of}
-use Rattle.km_model.specs.Past.{Past, Moment, Place, ScanLoad, world, loads, last_load, with_load}
-use Rattle.km_model.specs.Scan.{next, is_white, sums, sum_so_far, sum_step, sum_from, content_sum, last_word, finishes_summing, forgets_sum, kept_sum, differs, found_changed, scan_load, word_above, white_words}
+use Rattle.km_model.specs.Past.{Past, Moment, Place, ScanLoad, world, loads, last_load}
+use Rattle.km_model.specs.Scan.{next, is_white, sums, sum_so_far, sum_step, content_sum, last_word, finishes_summing, forgets_sum, kept_sum, differs, found_changed, word_above, white_words}
 use Rattle.km_model.specs.Follows.{past_of}
 use Rattle.km_model.specs.Headline.{just_forgot}
-use Rattle.km_model.proofs.Cases.{none_some, some_same, if_some, elim_false}
+use Rattle.km_model.proofs.Cases.{none_some, some_same, if_some}
 use Rattle.km_laws.specs.Left.{made}
 use Rattle.km_laws.proofs.Lists.{In, find_in}
 use Rattle.km_laws.proofs.Runs.{newest, made_same}
@@ -16,7 +16,7 @@ use Rattle.km_laws.proofs.Steps.{fits, next_good, last_is}
 use Rattle.km_converse.proofs.Contents.{next_word, no_word, sum_more}
 use Rattle.km_converse.proofs.Places.{made_in}
 use Rattle.km_converse.proofs.Links.{AreDistinct}
-use Rattle.km_converse.proofs.SumNext.{IsAfter, IsDone, IsOver, IsFresh, IsGoing, next_sums}
+use Rattle.km_converse.proofs.SumNext.{next_sums}
 
 -- the content sum of so many words
 abbrev pub sum_of : (ℕ → ℕ) → ℕ → ℕ → ℕ
@@ -85,6 +85,15 @@ pub kept_same : (past : Past) (a b : Block) → a.id ≡ b.id → a.start ≡ b.
 kept_same past a b e f g =
     kept_shape past a
     ∙ (ap (λ i. kept_sum past (shape i a.start a.size)) e ∙ (ap (λ s. kept_sum past (shape b.id s a.size)) f ∙ (ap (λ s. kept_sum past (shape b.id b.start s)) g ∙ sym (kept_shape past b))))
+
+-- the same for what is known of its sums
+pub facts_of : (value : ℕ → ℕ) (past : Past) (a b : Block) → a.id ≡ b.id → a.start ≡ b.start → a.size ≡ b.size
+    → SumFacts value (loads past) (kept_sum past a) a.id a.start (a.size / 8) → SumFacts value (loads past) (kept_sum past b) b.id b.start (b.size / 8)
+facts_of value past a b e f g facts =
+    let P : ℕ → ℕ → ℕ → Type 0 = λ id start size. SumFacts value (loads past) (kept_sum past (shape id start size)) id start (size / 8) in
+    facts_kept value (loads past) (kept_sum past (shape b.id b.start b.size)) (kept_sum past b) b.id b.start (b.size / 8) (kept_shape past b)
+    (subst (λ i. P i b.start b.size) e (subst (λ s. P a.id s b.size) f (subst (λ s. P a.id a.start s) g
+    (facts_kept value (loads past) (kept_sum past a) (kept_sum past (shape a.id a.start a.size)) a.id a.start (a.size / 8) (sym (kept_shape past a)) facts))))
 
 -- it is kept over an event that neither finishes a summing of the block nor forgets it
 pub kept_stays : (m : Moment) (past : Past) (b : Block) → just_forgot b (m ∷ past) ≡ false → finishes_summing b m.load ≡ false → kept_sum (m ∷ past) b ≡ kept_sum past b

@@ -1,13 +1,13 @@
-use Rattle.std.specs.Prelude.{◌≡◌, ℕ, ◌+◌, ◌<◌, ◌≤◌, Bool, true, false, ◌&&◌, ◌||◌, not, nat_le, nat_lt, ◌==◌, List, [], ◌∷◌, Some}
+use Rattle.std.specs.Prelude.{◌≡◌, ℕ, ◌+◌, ◌<◌, ◌≤◌, Bool, true, false, ◌&&◌, ◌||◌, not, nat_le, nat_lt, ◌==◌, List, [], ◌∷◌, ◌++◌, Some}
 use Rattle.km_model.specs.History.{History}
 use Rattle.km_model.specs.Blocks.{Block, block_of, can_be_reported, is_among}
 use Rattle.km_model.specs.World.{World}
 use Rattle.km_model.specs.Past.{Past, ScanLoad, world, was_completed, last_completed, moments_of, moments_between, at_begin, end_of}
 use Rattle.km_model.specs.Verdict.{last_unreferenced, listing_ids, times_new}
 use Rattle.km_model.specs.Mention.{is_own_link, names}
-use Rattle.km_model.specs.Follows.{Follows, past_of}
-use Rattle.km_model.specs.Headline.{IsMemorySize, is_live_unpainted, just_forgot}
-use Rattle.km_laws.specs.Members.{In}
+use Rattle.km_model.specs.Follows.{Follows, FollowsMemory, past_of}
+use Rattle.km_model.specs.Headline.{IsMemorySize, IsForgotten, is_live_unpainted, just_forgot}
+use Rattle.km_model.specs.Members.{In}
 
 -- whether a load doesn't mention a block from outside a set: its holder is a block of the set, it is an own link
 -- of the block, or its value points neither into the block nor into its head
@@ -48,22 +48,34 @@ pub record AreForgotten (past : Past) (j k : ℕ) (ids : List ℕ) (value : ℕ 
   pub first : (p : Past) → In p (moments_of j past) → IsClear is_before_sums ids p
   pub second : (p : Past) → In p (moments_of k past) → IsClear is_counting ids p
 
--- each of them that is old enough is unreferenced at scan k, is listed after it while it is live and can be reported,
--- and was new once, whatever the values of other loads
+-- each of them that is old enough is unreferenced at scan k, was new once, also at each later moment, and is listed
+-- while it is live and can be reported and no later scan is completed, whatever the values of other loads
 abbrev pub ForgottenAreListedByLoads : Type 0
 ForgottenAreListedByLoads =
-    (words : ℕ) (h : History) (j k : ℕ) (ids : List ℕ) (value : ℕ → ℕ) → IsMemorySize words → Follows words h
+    (words : ℕ) (h : History) (j k : ℕ) (ids : List ℕ) (value : ℕ → ℕ) → Follows words h
     → j < k → was_completed j (past_of h) ≡ true → last_completed (past_of h) ≡ Some k
     → AreForgotten (past_of h) j k ids value
     → (id : ℕ) (b : Block) → is_among id ids ≡ true → block_of (world (end_of k (past_of h))).blocks id ≡ Some b
     → b.born + 1000 ≤ (world (at_begin (end_of k (past_of h)))).now
     → (is_among id (last_unreferenced (past_of h)) ≡ true)
-    × (times_new (past_of h) id ≡ 1)
+    × ((later : History) → times_new (past_of (later ++ h)) id ≡ 1)
     × ((c : Block) → block_of (world (past_of h)).blocks id ≡ Some c → can_be_reported c ≡ true → is_among id (listing_ids (past_of h)) ≡ true)
 
--- what was unreferenced at the last completed scan was new once, and is listed while it is live and can be reported
+-- what was unreferenced at the last completed scan is listed while it is live and can be reported,
+-- and was new at one completed scan, also at each later moment
 abbrev pub UnreferencedAreListed : Type 0
 UnreferencedAreListed =
     (h : History) (id : ℕ) → is_among id (last_unreferenced (past_of h)) ≡ true
-    → (times_new (past_of h) id ≡ 1)
+    → ((later : History) → times_new (past_of (later ++ h)) id ≡ 1)
     × ((c : Block) → block_of (world (past_of h)).blocks id ≡ Some c → can_be_reported c ≡ true → is_among id (listing_ids (past_of h)) ≡ true)
+
+-- over a told memory, a set that is forgotten through two completed scans as `ForgottenAreListed` says: each member that is old enough
+-- at the second was new once, also where it was freed or painted since, or a later scan was completed
+abbrev pub ForgottenAreNewOnce : Type 0
+ForgottenAreNewOnce =
+    (words : ℕ) (h later : History) (j k : ℕ) (ids : List ℕ) → IsMemorySize words → FollowsMemory words h
+    → j < k → was_completed j (past_of h) ≡ true → last_completed (past_of h) ≡ Some k
+    → ((id : ℕ) → is_among id ids ≡ true → (b : Block) × (block_of (world (end_of k (past_of h))).blocks id ≡ Some b) × IsForgotten words (past_of h) j k ids b)
+    → (id : ℕ) (b : Block) → is_among id ids ≡ true → block_of (world (end_of k (past_of h))).blocks id ≡ Some b
+    → b.born + 1000 ≤ (world (at_begin (end_of k (past_of h)))).now
+    → times_new (past_of (later ++ h)) id ≡ 1

@@ -20,7 +20,7 @@ use Rattle.km_laws.proofs.Loads.{GoesOn}
 use Rattle.km_laws.proofs.Falls.{load_falls, move_falls}
 use Rattle.km_laws.proofs.Steps.{fits, next_good, last_is}
 use Rattle.km_laws.proofs.Ends.{left_stays}
-use Rattle.km_laws.proofs.Room.{left_bounded}
+use Rattle.km_laws.proofs.Room.{left_bounded, room}
 
 apart_of : (words : ℕ) (used : List Allocation) → Each (Sound words) used → Pairs PagesApart used → Pairs AllocationsApart used
 apart_of words [] s p = tt
@@ -35,6 +35,7 @@ all_is_placed words h size f =
       allocations_apart = apart_of words (world (past_of h)).used p.sound p.pages;
       blocks = p.blocks_in;
       blocks_apart = p.blocks_apart;
+      room = (let k = room words (world (past_of h)).used (world (past_of h)).blocks (world (past_of h)).tasks p in omega (arith, k));
       stacks = p.stacks_in;
       stacks_apart = p.stacks_apart;
     }

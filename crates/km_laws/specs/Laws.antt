@@ -9,21 +9,23 @@ use Rattle.km_model.specs.Blocks.{Block}
 use Rattle.km_model.specs.Placement.{Allocation}
 use Rattle.km_model.specs.Tasks.{Task}
 use Rattle.km_model.specs.World.{World}
-use Rattle.km_model.specs.Past.{Place, ScanLoad, world, last_load, begins}
+use Rattle.km_model.specs.Past.{Place, ScanLoad, world, last_load, begins, scans}
 use Rattle.km_model.specs.Scan.{next}
 use Rattle.km_model.specs.Follows.{Follows, moment, past_of}
 use Rattle.km_model.specs.Headline.{IsMemorySize}
 use Rattle.km_laws.specs.Members.{Each, Pairs}
-use Rattle.km_laws.specs.Left.{left}
+use Rattle.km_laws.specs.Left.{left, total}
 use Rattle.km_laws.specs.Placed.{AllocationsApart, BlocksApart, InMemory, WholeWords, BlockPlaced, StackPlaced}
 
 -- what stands at a moment is placed: live allocations are whole words of the memory and never meet; each live block
--- is whole words of one, and no two blocks meet; the stack of each task is one, and no two tasks have the same
+-- is whole words of one, and no two blocks meet, so that they have no more bytes than the memory; the stack of each task
+-- is one, and no two tasks have the same
 pub record IsPlaced (words : ℕ) (w : World) : Type 0 where
   pub allocations : Each (λ (x : Allocation). (0 < x.size) × InMemory words x.start x.size × WholeWords x.start x.size) w.used
   pub allocations_apart : Pairs AllocationsApart w.used
   pub blocks : Each (BlockPlaced w.used) w.blocks
   pub blocks_apart : Pairs BlocksApart w.blocks
+  pub room : total (λ (b : Block). b.size) w.blocks ≤ 8 * words
   pub stacks : Each (StackPlaced w.used) w.tasks
   pub stacks_apart : Pairs (λ (t u : Task). t.stack ≢ u.stack) w.tasks
 
@@ -47,6 +49,15 @@ pub record HasNames (w : World) : Type 0 where
 -- at each moment of a history the ids of the blocks and the numbers of the tasks rise
 abbrev pub NamesRise : Type 0
 NamesRise = (h : History) → HasNames (world (past_of h))
+
+-- an event registers at most two blocks, starts at most one task and begins at most one scan; one block is there at first
+pub record AreFew (h : History) : Type 0 where
+  pub registered : (world (past_of h)).registered ≤ 2 * length h + 1
+  pub started : (world (past_of h)).started ≤ length h
+  pub scans : scans (past_of h) ≤ length h
+
+abbrev pub NamesAreFew : Type 0
+NamesAreFew = (h : History) → AreFew h
 
 -- whether a load goes on with the holder of the last one, in its phase. A scanner moves to each other one
 abbrev pub goes_on : Option ScanLoad → Place → Bool

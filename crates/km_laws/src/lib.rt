@@ -6,7 +6,7 @@
 pub mod soundness;
 
 ghost use Rattle.km_model.specs.Headline.{ScansEnd};
-ghost use Rattle.km_laws.specs.Laws.{AllIsPlaced, NextIsAWord, NamesRise, LoadsLower, NothingRaises, LeftIsBounded};
+ghost use Rattle.km_laws.specs.Laws.{AllIsPlaced, NextIsAWord, NamesRise, NamesAreFew, LoadsLower, NothingRaises, LeftIsBounded};
 ghost use Rattle.km_laws.specs.Moves.{LoadsLowerAt, AllMovesLower, NoSkipRaises, AllQueuesFit, NothingRaisesAt, LeftAtIsBounded};
 
 /// Live allocations are whole words of the memory and never meet; each live block is whole words of one, and no two
@@ -23,6 +23,11 @@ pub fn next_is_a_word()
 /// The ids of blocks and the numbers of tasks rise.
 pub fn names_rise()
     ensures { NamesRise }
+{}
+
+/// Blocks, tasks and scans are no more than the events allow.
+pub fn names_are_few()
+    ensures { NamesAreFew }
 {}
 
 /// Each load of a scan lowers what is left of it.
