@@ -1,5 +1,5 @@
 //! Registers blocks of 8 bytes in a tracker of the largest memory, over the balanced tree, and looks up the last byte
-//! of each: ten blocks, or as many as the first word says. It prints how many it found. `tools/bench.sh` measures the
+//! of each: ten blocks, or as many as the first word says. It prints how many it found. `bench/layers.sh` measures the
 //! time and the memory that it takes.
 #![tactic(auto)]
 

@@ -143,14 +143,11 @@ pub gets : {X : Type 0} (xs : List X) (i : ℕ) (r : Option (Bor X)) → MatchOp
 gets xs i None h = sym (slice_get_past xs i h)
 gets xs i (Some b) h = rw (slice_get-get_or xs i b.now h.0) (ap Some (h.1 b.now))
 
--- a list after an insertion at its place, and after a removal, in the words of the map's laws
-pub inserted : (e : Entry) (xs seen at zs : List Entry) (n : ℕ) → at ≡ xs → xs ≡ seen → 0 < e.span.size → IsRising xs → find (meets e.span) seen ≡ None → n ≡ ended e.span.start.0 at → zs ≡ insert xs n e
-    → (zs ≡ with_entry e seen) × IsRising zs
-inserted e xs seen at zs n s t z r a h i =
-    let apart : find (meets e.span) xs ≡ None = rw t a in
-    let made : zs ≡ with_entry e xs = i ∙ (ap (λ k. insert xs k e) (h ∙ ap (λ l. ended e.span.start.0 l) s) ∙ insert_ended e xs z r apart) in
-    (made ∙ ap (λ l. with_entry e l) t, rw made (rising-with e xs z apart r))
+-- what `get` gives at the place of an address
+pub found_at : (a i : ℕ) (es : List Entry) (r : Option (Bor Entry)) → i ≡ ended a es → MatchOption r (length es ≤ i) (λ x. (i < length es) × HoldsAt (λ y. x.now ≡ y) es i) → option_copied r ≡ find (ends_behind a) es
+found_at a i es r h m = gets es i r m ∙ (ap (slice_get es) h ∙ sym (find-ends_behind a es))
 
+-- a list after a removal, in the words of the map's laws
 pub removed : (a slot n : ℕ) (xs seen at zs : List Entry) → at ≡ xs → xs ≡ seen → IsRising xs → Some slot ≡ slot_where (starts_at a) seen → n ≡ ended a at
     → (n < length xs) × (zs ≡ remove xs n → (zs ≡ without_start a seen) × IsRising zs)
 removed a slot n xs seen at zs s t r f h =
@@ -159,9 +156,17 @@ removed a slot n xs seen at zs s t r f h =
     let gone = remove_ended a slot xs r found in
     (rw e gone.0, λ i. let made : zs ≡ without_start a xs = i ∙ (ap (λ k. remove xs k) e ∙ gone.1) in (made ∙ ap (λ l. without_start a l) t, rw made (rising-filter _ xs r)))
 
+pub none_below : (o : Option Entry) → None ≡ option_map (λ (e : Entry). e.slot) o → o ≡ None
+none_below None h = refl
+none_below (Some e) h = cc
+
 pub kept_none : (a : ℕ) (es : List Entry) → None ≡ slot_where (starts_at a) es → es ≡ without_start a es
 kept_none a es h = sym (kept_all (starts_at a) es (none_below (find (starts_at a) es) h))
-  where
-    none_below : (o : Option Entry) → None ≡ option_map (λ (e : Entry). e.slot) o → o ≡ None
-    none_below None h = refl
-    none_below (Some e) h = cc
+
+-- a list after an insertion at its place, in the words of the map's laws
+pub inserted : (e : Entry) (xs seen at zs : List Entry) (n : ℕ) → at ≡ xs → xs ≡ seen → 0 < e.span.size → IsRising xs → None ≡ slot_where (meets e.span) xs → n ≡ ended e.span.start.0 at → zs ≡ insert xs n e
+    → (slot_where (meets e.span) seen ≡ None) × (zs ≡ with_entry e seen) × IsRising zs
+inserted e xs seen at zs n s t z r a h i =
+    let apart : find (meets e.span) xs ≡ None = none_below (find (meets e.span) xs) a in
+    let made : zs ≡ with_entry e xs = i ∙ (ap (λ k. insert xs k e) (h ∙ ap (λ l. ended e.span.start.0 l) s) ∙ insert_ended e xs z r apart) in
+    (rw (← t, apart) refl, made ∙ ap (λ l. with_entry e l) t, rw made (rising-with e xs z apart r))

@@ -1,4 +1,4 @@
-use Rattle.std.specs.Prelude.{ℕ, ◌+◌, ◌≤◌, ◌<◌, Bool, ◌&&◌, not, nat_le, nat_lt, ◌==◌, List, [], ◌∷◌, filter, find, Option, option_map, if◌then◌else◌}
+use Rattle.std.specs.Prelude.{ℕ, ◌+◌, ◌≤◌, ◌<◌, Bool, ◌&&◌, not, nat_le, nat_lt, ◌==◌, List, [], ◌∷◌, filter, find, Option, Some, None, option_map, Result, Ok, Err, if◌then◌else◌}
 use Rattle.km_base.specs.declared.spans.Span.{Span}
 use Rattle.km_map.specs.declared.entries.Entry.{Entry}
 
@@ -21,6 +21,11 @@ meets s e = nat_lt e.span.start.0 (s.start.0 + s.size) && nat_lt s.start.0 (end_
 -- the slot of the first entry that passes a test
 abbrev pub slot_where : (Entry → Bool) → List Entry → Option ℕ
 slot_where test es = option_map (λ (e : Entry). e.slot) (find test es)
+
+-- done, or the slot of an entry that is met
+abbrev pub unless_met : Option ℕ → Result (Unit {0}) ℕ
+unless_met None = Ok tt
+unless_met (Some slot) = Err slot
 
 -- the entries with one more, at its place by its start
 abbrev pub with_entry : Entry → List Entry → List Entry

@@ -1,7 +1,7 @@
 //! The laws of a map from spans to slots.
 
-ghost use Rattle.std.specs.Prelude.{◌≡◌, ℕ, ◌+◌, ◌^◌, ◌<◌, List, None, find, is_some, if◌then◌else◌};
-ghost use Rattle.km_map.specs.Entries.{IsRising, has_byte, meets, slot_where, starts_at, with_entry, without_start};
+ghost use Rattle.std.specs.Prelude.{◌≡◌, ℕ, ◌+◌, ◌^◌, ◌<◌, List, None, find, is_ok, is_some, if◌then◌else◌};
+ghost use Rattle.km_map.specs.Entries.{IsRising, has_byte, meets, slot_where, starts_at, unless_met, with_entry, without_start};
 ghost use Rattle.km_map.specs.declared.entries.Entry.{Entry as KeptEntry};
 
 use km_base::{Addr, Span};
@@ -23,7 +23,23 @@ pub trait ObjectMap: Drop {
         requires spare { 0 < room self.old }
         ensures entries { entries self.new ≡ with_entry (record { span = span; slot = slot }) (entries self.old) }
         ensures rising { IsRising (entries self.new) }
-        ensures spare { room self.new + 1 ≡ room self.old };
+        ensures spare { room self.new + 1 ≡ room self.old }
+    {
+        let Ok(()) = self.try_insert(span, slot) else {
+            unreachable!()
+        };
+    }
+
+    /// Adds a span that meets none, in one search. Else it gives the slot of the lowest that it
+    /// meets, and nothing changes.
+    fn try_insert(&mut self, span: Span, slot: u32) -> Result<(), u32>
+        requires sized { 0 < span.size }
+        requires end { span.start.0 + span.size < 2 ^ 64 }
+        requires spare { 0 < room self.old }
+        ensures answer { result ≡ unless_met (slot_where (meets span) (entries self.old)) }
+        ensures entries { entries self.new ≡ (if is_ok result then with_entry (record { span = span; slot = slot }) (entries self.old) else entries self.old) }
+        ensures rising { IsRising (entries self.new) }
+        ensures spare { room self.new + (if is_ok result then 1 else 0) ≡ room self.old };
 
     /// Removes the span that starts at an address, which gives its place back, and gives its slot.
     fn remove(&mut self, start: Addr) -> Option<u32>
@@ -41,13 +57,6 @@ pub trait ObjectMap: Drop {
     /// The slot of the span that starts at an address.
     fn find_start(&self, a: Addr) -> Option<u32>
         ensures slot { result ≡ slot_where (starts_at a.0) (entries self.now) }
-        ensures rising { IsRising (entries self.now) };
-
-    /// The slot of the lowest span that has a byte in common with this one.
-    fn meeting(&self, span: &Span) -> Option<u32>
-        requires sized { 0 < span.now.size }
-        requires end { span.now.start.0 + span.now.size < 2 ^ 64 }
-        ensures slot { result ≡ slot_where (meets span.now) (entries self.now) }
         ensures rising { IsRising (entries self.now) };
 
     /// How many more spans it can take.

@@ -1,7 +1,7 @@
 //! A map that is a sorted vector.
 
-ghost use Rattle.std.specs.Prelude.{◌≡◌, [], IfOk, find, option_copied};
-ghost use Rattle.km_map.specs.Entries.{IsRising, ended, ends_behind};
+ghost use Rattle.std.specs.Prelude.{◌≡◌, ◌+◌, ◌^◌, ◌<◌, [], IfOk, find, option_copied};
+ghost use Rattle.km_map.specs.Entries.{IsRising, ended, ends_behind, meets, slot_where};
 
 use crate::entries::Entry;
 use crate::object_map::ObjectMap;
@@ -58,16 +58,35 @@ fn ending_behind(entries: &[Entry], a: u64) -> Option<&Entry>
     entries.get(place(entries, a))
 }
 
+/// The slot of the lowest of these entries that meets a span, which stands at the place of its
+/// start if anywhere.
+fn met(entries: &[Entry], at: usize, span: &Span) -> Option<u32>
+    requires rising { IsRising entries.now }
+    requires place { at ≡ ended span.now.start.0 entries.now }
+    requires sized { 0 < span.now.size }
+    requires end { span.now.start.0 + span.now.size < 2 ^ 64 }
+    ensures { result ≡ slot_where (meets span.now) entries.now }
+{
+    match entries.get(at) {
+        Some(e) if e.span.start.0 < span.start.0 + span.size => Some(e.slot),
+        _ => None,
+    }
+}
+
 impl ObjectMap for SortedMap {
     ghost entries = { λ m. m.entries };
 
     ghost room = { λ m. m.room };
 
-    fn insert(&mut self, span: Span, slot: u32) {
+    fn try_insert(&mut self, span: Span, slot: u32) -> Result<(), u32> {
         let at = place(&self.entries, span.start.0);
+        if let Some(slot) = met(&self.entries, at, &span) {
+            return Err(slot);
+        }
         let Ok(()) = self.entries.insert(at, Entry { span, slot }) else {
             unreachable!()
         };
+        Ok(())
     }
 
     fn remove(&mut self, start: Addr) -> Option<u32> {
@@ -87,13 +106,6 @@ impl ObjectMap for SortedMap {
     fn find_start(&self, a: Addr) -> Option<u32> {
         match ending_behind(&self.entries, a.0) {
             Some(e) if e.span.start.0 == a.0 => Some(e.slot),
-            _ => None,
-        }
-    }
-
-    fn meeting(&self, span: &Span) -> Option<u32> {
-        match ending_behind(&self.entries, span.start.0) {
-            Some(e) if e.span.start.0 < span.start.0 + span.size => Some(e.slot),
             _ => None,
         }
     }

@@ -72,7 +72,16 @@ abbrev pub EachIn : Span → List Area → Type 0
 EachIn s [] = Unit {0}
 EachIn s (a ∷ areas) = AreWordsIn s a × EachIn s areas
 
--- a record's span is of words, and so are its areas, which lie in it and fill four places from the front. A black one isn't scanned
+-- a record's span is of words, and so are its areas, which lie in it and fill four places from the front
+pub record IsLaid (r : Record) : Type 0 where
+  pub start : r.span.start.0 % 8 ≡ 0
+  pub size : r.span.size % 8 ≡ 0
+  pub end : r.span.start.0 + r.span.size < 2 ^ 64
+  pub inside : EachIn r.span (areas_in r.areas)
+  pub packed : is_packed r.areas ≡ true
+  pub places : length r.areas ≡ 4
+
+-- the same, and a black one isn't scanned
 pub record IsSound (r : Record) : Type 0 where
   pub start : r.span.start.0 % 8 ≡ 0
   pub size : r.span.size % 8 ≡ 0

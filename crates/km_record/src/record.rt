@@ -4,12 +4,14 @@ ghost use Rattle.std.specs.Prelude.{◌≡◌, ℕ, ◌+◌, ◌-◌, ◌*◌, �
 ghost use Rattle.std.specs.List.{list_any};
 ghost use Rattle.km_model.specs.Blocks.{contains, in_areas, is_within};
 ghost use Rattle.km_record.specs.Least.{IsLeast, lesser};
-ghost use Rattle.km_record.specs.Records.{is_met, is_unscanned, begins_full, IsSound, area_fault, areas_in, block_of, colour_in, painted, record_painted, scanned_from, unless_fault, with_area};
+ghost use Rattle.km_record.specs.Records.{is_met, is_unscanned, begins_full, IsLaid, area_fault, areas_in, block_of, colour_in, painted, record_painted, scanned_from, unless_fault, with_area};
 
 use crate::kinds::{AreaFault, Colour, Minimum, Paint};
 use km_base::{Addr, Span};
+use std::mem::size_of;
 
-/// A registered block with what the scans keep of it. Its span and its areas consist of words.
+/// A registered block with what the scans keep of it: 160 bytes. Its span and its areas consist of
+/// words.
 #[derive(Clone, Copy, Debug, PartialEq)]
 pub struct Record {
     pub span: Span,
@@ -17,6 +19,10 @@ pub struct Record {
     /// The references that the running or last scan found.
     pub count: u8,
     pub no_scan: bool,
+    /// It was unreferenced at some completed scan.
+    pub flagged: bool,
+    /// It was unreferenced at the last completed scan.
+    pub white_last: bool,
     /// The parts that alone are scanned, filled from the front; with none, all of it is scanned.
     pub areas: [Option<Span>; 4],
     /// The start of a block to which references are passed on.
@@ -25,11 +31,9 @@ pub struct Record {
     pub born: u64,
     /// The content sum at the last finished summing.
     pub sum: Option<u64>,
-    /// It was unreferenced at some completed scan.
-    pub flagged: bool,
-    /// It was unreferenced at the last completed scan.
-    pub white_last: bool,
 }
+
+const _: () = prove!(size_of::<Record>() == 160);
 
 impl Record {
     /// White where the count is below the minimum, else grey; a black block is neither.
@@ -69,7 +73,7 @@ impl Record {
     /// It is refused where it goes past the end of the block, else where it meets an area that is
     /// kept, else where four are kept. A refusal changes nothing.
     pub fn add_area(&mut self, area: Span) -> Result<(), AreaFault>
-        requires sound { IsSound self.old }
+        requires laid { IsLaid self.old }
         requires start { area.start.0 % 8 ≡ 0 }
         requires size { area.size % 8 ≡ 0 }
         requires sized { 0 < area.size }
@@ -78,7 +82,7 @@ impl Record {
         ensures block { (id : ℕ) → block_of id self.new ≡ (if is_ok result then with_area area.start.0 area.size (block_of id self.old) else block_of id self.old) }
         ensures others { self.new ≡ record self.old { areas = self.new.areas } }
         ensures refused { OnErr result (self.new ≡ self.old) }
-        ensures sound { IsSound self.new }
+        ensures laid { IsLaid self.new }
     {
         if area.size > self.span.size - (area.start.0 - self.span.start.0) {
             return Err(AreaFault::NotInside);
@@ -95,7 +99,7 @@ impl Record {
 
     /// The least index, at `from` or above, of a word of the block that is scanned.
     pub fn next_word(&self, from: u64) -> Option<u64>
-        requires { IsSound self.now }
+        requires { IsLaid self.now }
         ensures least { option_map (λ i. self.now.span.start.0 + 8 * i) result ≡ scanned_from (self.now.span.start.0 + 8 * from) (block_of 0 self.now) }
         ensures within { IfSome result (λ i. i < self.now.span.size / 8) }
     {
@@ -175,7 +179,7 @@ fn least_in_area(start: u64, area: &Span, from: u64) -> Option<u64>
 
 /// The least index, at `from` or above, of a word that is in one of the areas.
 fn least_in_areas(block: &Record, from: u64) -> Option<u64>
-    requires { IsSound block.now }
+    requires { IsLaid block.now }
     ensures { IsLeast (λ i. in_areas (areas_in block.now.areas) (block.now.span.start.0 + 8 * i)) from (block.now.span.size / 8) result }
 {
     let mut least = None;

@@ -1,7 +1,7 @@
 //! Records against tables that were worked out by hand.
 
 ghost use Rattle.std.specs.Prelude.{◌≡◌};
-ghost use Rattle.km_record.specs.Records.{IsSound};
+ghost use Rattle.km_record.specs.Records.{IsLaid};
 
 use crate::kinds::{AreaFault, Colour, Minimum, Paint};
 use crate::record::Record;
@@ -11,7 +11,7 @@ const B: u64 = 0xffff_8880_0000_1000;
 
 /// A block of eight words.
 fn record() -> Record
-    ensures sound { IsSound result }
+    ensures laid { IsLaid result }
     ensures span { result.span ≡ record { start = record { 0 = B }; size = 64 } }
 {
     Record {
@@ -22,12 +22,12 @@ fn record() -> Record
         minimum: Minimum::AtLeast(2),
         count: 0,
         no_scan: false,
+        flagged: false,
+        white_last: false,
         areas: [None; 4],
         excess: None,
         born: 0,
         sum: None,
-        flagged: false,
-        white_last: false,
     }
 }
 
@@ -109,4 +109,7 @@ fn colours_follow_counts_and_paints(rt: HostRuntime) {
     assert_eq!(rt; block.next_word(0), None);
     block.paint(Paint::Grey);
     assert_eq!(rt; block.colour(), Colour::Grey);
+    block.minimum = Minimum::Black;
+    block.no_scan = false;
+    assert_eq!(rt; block.next_word(0), None);
 }

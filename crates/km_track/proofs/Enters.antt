@@ -1,4 +1,4 @@
-use Rattle.std.proofs.Common.{◌≡◌, ◌≢◌, ℕ, ◌+◌, ◌-◌, ◌<◌, ◌≤◌, ◌^◌, ◌%◌, Bool, true, false, ◌||◌, ◌==◌, ltb, List, [], ◌∷◌, ◌++◌, map, length, set, drop, cond, Option, Some, None, is_some, option_map, ◌⊎◌, inl, inr, refl, sym, ap, ◌∙◌, subst, arith, length-append, length-set, get_or-set_same, get_or-set_other}
+use Rattle.std.proofs.Common.{◌≡◌, ◌≢◌, ℕ, ◌+◌, ◌-◌, ◌<◌, ◌≤◌, ◌^◌, ◌%◌, Bool, true, false, ◌||◌, ◌==◌, ltb, List, [], ◌∷◌, ◌++◌, map, length, set, drop, cond, Option, Some, None, Ok, Err, is_some, option_map, ◌⊎◌, inl, inr, refl, sym, ap, ◌∙◌, subst, arith, length-append, length-set, get_or-set_same, get_or-set_other}
 use Rattle.std.specs.Prelude.{find}
 use Rattle.std.proofs.lemmas.Bool.{or_left, or_right, or_from, eqb-true, eq-eqb, ne_eqb, both_ways}
 use Rattle.std.proofs.lemmas.List.{map-append, get_or_push, get_or_append_left}
@@ -8,11 +8,11 @@ use Rattle.km_state.specs.State.{is_white_now, fresh}
 use Rattle.km_links.specs.Chains.{is_in, first_of}
 use Rattle.km_links.proofs.Distinct.{distinct_append, out_both}
 use Rattle.km_map.specs.declared.entries.Entry.{Entry}
-use Rattle.km_map.specs.Entries.{slot_where, with_entry, end_of, IsRising, meets as entry_meets}
+use Rattle.km_map.specs.Entries.{slot_where, unless_met, with_entry, end_of, IsRising, meets as entry_meets}
 use Rattle.km_record.specs.Records.{IsSound}
 use Rattle.km_record.specs.declared.kinds.RecId.{RecId}
 use Rattle.km_track.specs.declared.slots.Slot.{Slot}
-use Rattle.km_track.specs.Slots.{IsPlaced, no_record, slot_at, slot_new}
+use Rattle.km_track.specs.Slots.{IsPlaced, next_slot, no_record, slot_at, slot_new}
 use Rattle.km_track.specs.Tracker.{IsLowest, Live, Tracker, id_of, is_id, meets, new_block, registered_in}
 use Rattle.km_track.specs.Holds.{live_at, entry_at, IsAmong, IdsRise, Holds}
 use Rattle.km_track.proofs.Members.{start_among}
@@ -21,6 +21,20 @@ use Rattle.km_track.proofs.Writes.{ids_in}
 use Rattle.km_track.proofs.Marks.{head_in}
 
 -- a block enters
+
+-- the next slot is the head of the free ones
+pub next_is : (S : List Slot) (free : List ℕ) (n : ℕ) → Some n ≡ first_of free → next_slot S free ≡ n
+next_is S [] n h = absurd (let z : ⊥ = cc in z)
+next_is S (m ∷ free) n h = cc
+
+-- what an insertion answers
+pub met_is : (o : Option ℕ) (n : ℕ) → Err n ≡ unless_met o → Some n ≡ o
+met_is None n h = absurd (let z : ⊥ = cc in z)
+met_is (Some m) n h = let same : n ≡ m = cc in ap Some same
+
+pub none_is : (o : Option ℕ) → Ok tt ≡ unless_met o → None ≡ o
+none_is None h = refl
+none_is (Some m) h = absurd (let z : ⊥ = cc in z)
 
 -- a slot that is taken: it was in no list but the free one
 pub record Took (S T : List Slot) (order free rest : List ℕ) (n : ℕ) (x : Slot) : Type 0 where
@@ -232,11 +246,6 @@ overlaps S order grey free es reg n span h w =
             omega (arith, low, ap (λ (y : Entry). y.span.start.0) is, ap (λ (l : Live). l.tracked.block.start) o.2);
       };
     }
-
--- where the map has none
-pub none_below : (o : Option Entry) → None ≡ option_map (λ (e : Entry). e.slot) o → o ≡ None
-none_below None h = refl
-none_below (Some e) h = cc
 
 pub none_meets : (S : List Slot) (order grey free : List ℕ) (es : List Entry) (reg : ℕ) (span : Span) → Holds S order grey free es reg → None ≡ slot_where (entry_meets span) es → find (λ (l : Live). meets span l.tracked.block) (map (live_at S) order) ≡ None
 none_meets S order grey free es reg span h w = (where_none S order grey free es reg (entry_meets span) (λ (l : Live). meets span l.tracked.block) h (λ m. refl) w).0

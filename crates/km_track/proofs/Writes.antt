@@ -13,7 +13,7 @@ use Rattle.km_record.specs.declared.kinds.Paint.{Paint}
 use Rattle.km_record.specs.declared.kinds.Paint.TheVariants as paint
 use Rattle.km_record.specs.declared.record.Record.{Record}
 use Rattle.km_record.specs.declared.kinds.Minimum.TheVariants.{Black}
-use Rattle.km_record.specs.Records.{IsSound, painted, record_painted}
+use Rattle.km_record.specs.Records.{IsLaid, IsSound, painted, record_painted}
 use Rattle.km_track.specs.declared.slots.Slot.{Slot}
 use Rattle.km_track.specs.Slots.{no_record, slot_at, slot_painted, slot_unscanned, slot_forgotten, slot_excess}
 use Rattle.km_track.specs.Tracker.{Live, Tracker, begins, changed, is_id, tracked_of}
@@ -134,6 +134,10 @@ wrote_paint paint.Grey S T order grey free es reg a n h w e =
 wrote_paint paint.Black S T order grey free es reg a n h w e =
     let p = at_start S order grey free es reg a n h w in
     wrote S T order grey free es reg n (slot_painted paint.Black (slot_at S n)) (λ (l : Live). begins a l.tracked.block) (λ (u : Tracked). record u { block = painted paint.Black u.block }) h p.0 e refl refl (sound_painted paint.Black _ (h.sound n p.0)) (λ f. absurd (let z : ⊥ = cc in z)) refl p.2 p.3
+
+pub sound_with : (r q : Record) → IsSound r → q ≡ record r { areas = q.areas } → IsLaid q → IsSound q
+sound_with r q s o l =
+    record { start = l.start; size = l.size; end = l.end; inside = l.inside; packed = l.packed; places = l.places; quiet = λ m. ap (λ (x : Record). x.no_scan) o ∙ s.quiet (sym (ap (λ (x : Record). x.minimum) o) ∙ m) }
 
 pub same_sound : (r q : Record) → q.span ≡ r.span → q.areas ≡ r.areas → ((r.minimum ≡ Black → r.no_scan ≡ true) → q.minimum ≡ Black → q.no_scan ≡ true) → IsSound r → IsSound q
 same_sound r q e f g s = record { start = rw e s.start; size = rw e s.size; end = rw e s.end; inside = rw (e, f) s.inside; packed = rw f s.packed; places = rw f s.places; quiet = g s.quiet }

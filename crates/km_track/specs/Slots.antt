@@ -76,6 +76,11 @@ slot_new id span references born = record {
   };
 }
 
+-- the first free slot, or the one behind all others where none is free
+abbrev pub next_slot : List Slot → List ℕ → ℕ
+next_slot slots [] = length slots
+next_slot slots (n ∷ free) = n
+
 -- a record in the first free slot, or behind all others where none is free
 abbrev pub IsPlaced : List Slot → List Slot → List ℕ → List ℕ → ℕ → Slot → Type 0
 IsPlaced slots new free rest n x =

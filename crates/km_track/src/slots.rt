@@ -7,18 +7,21 @@ ghost use Rattle.km_model.specs.Scan.{differs};
 ghost use Rattle.km_record.specs.Records.{IsSound, area_fault, block_of, unless_fault};
 ghost use Rattle.km_state.specs.State.{is_white_now};
 ghost use Rattle.km_track.specs.Tracker.{tracked_of};
-ghost use Rattle.km_track.specs.Slots.{IsWithArea, IsPlaced, slot_new, slot_at, slot_counted, slot_excess, slot_forgotten, slot_judged, slot_painted, slot_started, started_queue, started_slots, slot_summed, is_root as needs_none, requeued, slot_unscanned};
+ghost use Rattle.km_track.specs.Slots.{IsWithArea, IsPlaced, next_slot, slot_new, slot_at, slot_counted, slot_excess, slot_forgotten, slot_judged, slot_painted, slot_started, started_queue, started_slots, slot_summed, is_root as needs_none, requeued, slot_unscanned};
 
 use km_base::{Addr, Span};
 use km_links::{Links, Which};
 use km_record::{AreaFault, Minimum, Paint, Record};
+use std::mem::size_of;
 
-/// A record, and the number of the registration that it is or was of.
+/// A record, and the number of the registration that it is or was of: 168 bytes.
 #[derive(Clone, Copy, Debug, PartialEq)]
 pub struct Slot {
     pub generation: u64,
     pub record: Record,
 }
+
+const _: () = prove!(size_of::<Slot>() == 168);
 
 pub fn paint(slots: &mut Vec<Slot>, n: u32, to: Paint)
     requires { n < length slots.old.items }
@@ -187,35 +190,43 @@ pub fn fresh(generation: u64, span: Span, minimum: u8, born: u64) -> Slot
             minimum: Minimum::AtLeast(minimum),
             count: 0,
             no_scan: false,
+            flagged: false,
+            white_last: false,
             areas: [None, None, None, None],
             excess: None,
             born,
             sum: None,
-            flagged: false,
-            white_last: false,
         },
     }
 }
 
-/// Puts a record into a slot that is free again, or else into the next that was never used.
-pub fn place(slots: &mut Vec<Slot>, links: &mut Links, x: Slot) -> u32
+/// The slot of the next record: one that is free again, or else the next that was never used.
+pub fn next(slots: &Vec<Slot>, links: &Links) -> u32
+    requires small { length slots.now.items < 2 ^ 32 }
+    ensures { result ≡ next_slot slots.now.items links.now.free }
+{
+    match links.first(Which::Free) {
+        Some(n) => n,
+        None => slots.len() as u32,
+    }
+}
+
+/// Puts the next record into its slot.
+pub fn place(slots: &mut Vec<Slot>, links: &mut Links, x: Slot)
     requires used { (n : ℕ) → is_in n links.old.free ≡ true → n < length slots.old.items }
     requires room { links.old.free ≡ [] → length slots.old.items < vec_capacity slots.old }
-    requires small { length slots.old.items < 2 ^ 32 }
-    ensures placed { IsPlaced slots.old.items slots.new.items links.old.free links.new.free result x }
-    ensures out { is_in result links.new.free ≡ false ⊎ (links.old.free ≡ []) }
+    ensures placed { IsPlaced slots.old.items slots.new.items links.old.free links.new.free (next_slot slots.old.items links.old.free) x }
+    ensures out { is_in (next_slot slots.old.items links.old.free) links.new.free ≡ false ⊎ (links.old.free ≡ []) }
     ensures others { links.new ≡ record links.old { free = links.new.free } }
     ensures capacity { vec_capacity slots.old ≤ vec_capacity slots.new }
 {
     if let Some(n) = links.pop_front(Which::Free) {
         slots[n as usize] = x;
-        return n;
+        return;
     }
-    let n = slots.len() as u32;
     let Ok(()) = slots.push(x) else {
         unreachable!()
     };
-    n
 }
 
 /// Adds an area to a block.

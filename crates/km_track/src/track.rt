@@ -79,15 +79,15 @@ impl<M: ObjectMap> Track<M> {
         ensures block { IfOk result (λ id. self.new ≡ registered_in id.slot span minimum born self.old) }
         ensures refused { OnErr result (self.new ≡ self.old) }
     {
-        if let Some(slot) = self.map.meeting(&span) {
+        let slot = slots::next(&self.slots, &self.links);
+        if let Err(slot) = self.map.try_insert(span, slot) {
             let generation = self.slots[slot as usize].generation;
             return Err(Overlap(RecId { slot, generation }));
         }
         let generation = self.registered;
         let block = slots::fresh(generation, span, minimum, born);
-        let slot = slots::place(&mut self.slots, &mut self.links, block);
+        slots::place(&mut self.slots, &mut self.links, block);
         self.links.push_back(Which::Order, slot);
-        self.map.insert(span, slot);
         self.registered += 1;
         Ok(RecId { slot, generation })
     }

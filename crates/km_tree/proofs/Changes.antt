@@ -1,12 +1,14 @@
-use Rattle.std.proofs.Common.{◌≡◌, ℕ, ◌+◌, ◌^◌, ◌<◌, ◌≤◌, List, length, Option, Some, refl, sym, ap, subst, ◌∙◌, arith}
+use Rattle.std.proofs.Common.{◌≡◌, ℕ, ◌+◌, ◌^◌, ◌<◌, ◌≤◌, List, ◌∷◌, ◌++◌, length, Option, Some, refl, sym, ap, subst, ◌∙◌, arith}
 use Rattle.std.specs.Prelude.{slice_index_or}
 use Rattle.std.proofs.lemmas.Bool.{eq-eqb, ne_eqb, lt-ltb, le-ltb}
 use Rattle.std.proofs.lemmas.Option.{slice_get_within}
 use Rattle.km_map.specs.declared.entries.Entry.{Entry}
+use Rattle.km_map.specs.Entries.{end_of, IsRising}
 use Rattle.km_tree.specs.declared.node.Node.{Node}
 use Rattle.km_tree.specs.declared.node.Placed.{Placed}
 use Rattle.km_tree.specs.Tables.{OverLeft, OverRight, Stands, Held, Sides, Pair, Made, height_at}
-use Rattle.km_tree.specs.Trees.{IsLevel, height_of, Tree, Leaf, Fork, size_of, weigh, uses, one, no_node, levelled, hung, lowest, joined, unhung, gone}
+use Rattle.km_tree.specs.Trees.{IsLevel, height_of, Tree, Leaf, Fork, size_of, weigh, uses, one, no_node, entries_of, or_else, met_by, met_in, levelled, hung, lowest, joined, unhung, gone}
+use Rattle.km_tree.proofs.Finds.{rising-left, rising-right, met_left, met_here, met_right}
 use Rattle.km_tree.proofs.Tables.{Topped, topped, Forked, forked_at, lower}
 use Rattle.km_tree.proofs.Shapes.{one_at, split, held_left, side_left, side_right, stays, after, made_as}
 use Rattle.km_tree.proofs.Weights.{weigh-levelled, weigh-hung, weigh-lowest, weigh-unhung}
@@ -54,6 +56,11 @@ pub record Hangs (table : List Node) (t : Tree) (root new : ℕ) (e : Entry) (n 
   pub right_level : IsLevel right
   pub left_over : (mid : List Node) (a before : ℕ) → before ≡ height_of left → Made table mid (hung new e left) a → OverLeft mid before a root left (hung new e left) n.entry right
   pub right_over : (mid : List Node) (a before : ℕ) → before ≡ height_of right → Made table mid (hung new e right) a → OverRight mid before a root left n.entry right (hung new e right)
+  pub left_rising : IsRising (entries_of t) → IsRising (entries_of left)
+  pub right_rising : IsRising (entries_of t) → IsRising (entries_of right)
+  pub left_met : (other : Option ℕ) → IsRising (entries_of t) → e.span.start.0 < n.entry.span.start.0 → met_in e.span (met_by e.span other n.entry) left ≡ met_in e.span other t
+  pub here_met : (other : Option ℕ) → IsRising (entries_of t) → 0 < e.span.size → n.entry.span.start.0 ≤ e.span.start.0 → e.span.start.0 < end_of n.entry → met_in e.span other t ≡ Some n.entry.slot
+  pub right_met : (other : Option ℕ) → IsRising (entries_of t) → end_of n.entry ≤ e.span.start.0 → met_in e.span other right ≡ met_in e.span other t
   pub left_done : (mid end : List Node) (a b : ℕ) → e.span.start.0 < n.entry.span.start.0 → Made table mid (hung new e left) a → Made mid end (levelled (hung new e left) root n.entry right) b → Made table end (hung new e t) b
   pub right_done : (mid end : List Node) (a b : ℕ) → n.entry.span.start.0 ≤ e.span.start.0 → Made table mid (hung new e right) a → Made mid end (levelled left root n.entry (hung new e right)) b → Made table end (hung new e t) b
 
@@ -69,6 +76,7 @@ hangs {table} {t} {root} {new} e d flat h not =
     let falls = lower z h.left h.left_is in
     let stands : Stands table (Fork l root n.entry r) = subst (Stands table) z.is h.left in
     let level : IsLevel (Fork l root n.entry r) = subst IsLevel z.is flat in
+    let risen : IsRising (entries_of t) → IsRising (entries_of l ++ n.entry ∷ entries_of r) = λ up. subst (λ x. IsRising (entries_of x)) z.is up in
     record {
       left = l;
       right = r;
@@ -81,6 +89,11 @@ hangs {table} {t} {root} {new} e d flat h not =
       right_lower = falls.1;
       left_over = λ mid a before same w. over_left stands s level w (λ i. omega (arith, once i, weigh-hung (λ k _. one i k) new e l)) (omega (arith, small, weigh-hung (λ _ _. 1) new e l)) same;
       right_over = λ mid a before same w. over_right stands s level w (λ i. omega (arith, once i, weigh-hung (λ k _. one i k) new e r)) (omega (arith, small, weigh-hung (λ _ _. 1) new e r)) same;
+      left_rising = λ up. rising-left (entries_of l) _ (risen up);
+      right_rising = λ up. (rising-right (entries_of l) (n.entry ∷ entries_of r) (risen up)).2;
+      left_met = λ other up lt. met_left e.span (entries_of l) n.entry (entries_of r) other (risen up) lt ∙ ap (met_in e.span other) (sym z.is);
+      here_met = λ other up pos le lt. ap (met_in e.span other) z.is ∙ ap (λ o. or_else o other) (met_here e.span (entries_of l) n.entry (entries_of r) (risen up) pos le lt);
+      right_met = λ other up le. ap (λ o. or_else o other) (met_right e.span (entries_of l) n.entry (entries_of r) (risen up) le) ∙ ap (met_in e.span other) (sym z.is);
       left_done = λ mid end a b lt p q. made_as (sym (ap (hung new e) z.is ∙ (rw (lt-ltb _ _ lt) refl))) (levelled_after (hung new e l) root n.entry r p q);
       right_done = λ mid end a b le p q. made_as (sym (ap (hung new e) z.is ∙ (rw (le-ltb _ _ le) refl))) (levelled_behind l root n.entry (hung new e r) p q);
     }

@@ -2,13 +2,14 @@ use Rattle.std.proofs.Common.{◌≡◌, ℕ, zero, suc, ◌+◌, ◌^◌, ◌<�
 use Rattle.std.specs.Prelude.{slice_get, slice_index_or, find}
 use Rattle.std.proofs.Math.Seq.{take-append_seam}
 use Rattle.std.proofs.lemmas.Bool.{ltb-true, ltb-false, ne_eqb, eqb-true}
+use Rattle.std.proofs.lemmas.List.{get_or_push}
 use Rattle.std.proofs.lemmas.Option.{slice_get_within, slice_get-get_or}
 use Rattle.km_map.specs.declared.entries.Entry.{Entry}
 use Rattle.km_map.specs.Entries.{ends_behind, IsRising}
 use Rattle.km_tree.specs.declared.node.Node.{Node}
 use Rattle.km_tree.specs.Tables.{Stands, height_at}
-use Rattle.km_tree.specs.Trees.{Tree, Leaf, Fork, root_of, entries_of, height_of, uses, one, no_node}
-use Rattle.km_tree.specs.Maps.{read, tree_at, next_in, Chained, times, Kept, AnyKept, Fresh}
+use Rattle.km_tree.specs.Trees.{Tree, Leaf, Fork, root_of, entries_of, height_of, uses, no_node}
+use Rattle.km_tree.specs.Maps.{read, tree_at, next_in, Chained, times, Kept, AnyKept, Ready}
 use Rattle.km_tree.proofs.Tables.{height_is}
 use Rattle.km_tree.proofs.Shapes.{one_at, one_off, stays}
 
@@ -51,56 +52,37 @@ slice_get-push [] x i h = absurd (omega (arith, h))
 slice_get-push (y ∷ xs) x zero h = refl
 slice_get-push (y ∷ xs) x (suc i) h = slice_get-push xs x i (omega (arith, h))
 
--- a free place is taken
-pub fresh_free : (table : List Node) (tree : Tree) (spare : List ℕ) (root free room capacity : ℕ) (n : Node) → Kept table tree spare root free (room + 1) capacity → (free ≡ no_node → ⊥) → n ≡ slice_index_or table free n → Fresh table tree root free n.left room capacity
-fresh_free table tree [] root free room capacity n k not h = absurd (not k.chained)
-fresh_free table tree (i ∷ ks) root free room capacity n k not h =
-    let c = k.chained in
-    let once : (j : ℕ) → uses j tree + one j free + times j ks ≤ 1 = λ j. subst (λ p. uses j tree + one j p + times j ks ≤ 1) (sym c.0) (omega (arith, k.once j)) in
-    let node : slice_get table i ≡ Some n = slice_get-get_or table i n c.1 ∙ ap Some (ap (λ p. slice_index_or table p n) (sym c.0) ∙ sym h) in
-    record {
-      spare = ks;
-      beside = record { left_is = k.is; right_is = refl; left = k.stands; right = tt; once = λ j. omega (arith, once j); small = omega (arith, k.small); inside = omega (arith, c.0, c.1); place = omega (arith, c.0, c.2) };
-      chained = subst (λ o. Chained table (next_in o) ks) node c.3;
-      once = once;
-      reach = omega (arith, k.reach);
-      fits = omega (arith, k.fits);
-    }
-
-pub free_inside : (table : List Node) (tree : Tree) (spare : List ℕ) (root free room capacity : ℕ) → Kept table tree spare root free room capacity → (free ≡ no_node → ⊥) → free < length table
-free_inside table tree [] root free room capacity k not = absurd (not k.chained)
-free_inside table tree (i ∷ ks) root free room capacity k not = omega (arith, k.chained.0, k.chained.1)
+-- a place that is free
+pub ready_free : (table : List Node) (tree : Tree) (spare : List ℕ) (root free room capacity : ℕ) → Kept table tree spare root free room capacity → (free ≡ no_node → ⊥) → Ready table tree root free room capacity
+ready_free table tree [] root free room capacity k not = absurd (not k.chained)
+ready_free table tree (i ∷ ks) root free room capacity k not = record { rest = ks; kept = subst (λ p. Kept table tree (p ∷ ks) root free room capacity) (sym k.chained.0) k }
 
 -- where no place is free, there is room behind the table
 pub none_free : (table : List Node) (tree : Tree) (spare : List ℕ) (root free room capacity : ℕ) → Kept table tree spare root free room capacity → free ≡ no_node → spare ≡ []
 none_free table tree [] root free room capacity k h = refl
 none_free table tree (i ∷ ks) root free room capacity k h = absurd (omega (arith, h, k.chained.0, k.chained.2))
 
-pub fresh_new : (table new : List Node) (tree : Tree) (spare : List ℕ) (root free room capacity reserved place : ℕ) (x : Node) → Kept table tree spare root free (room + 1) capacity → free ≡ no_node → new ≡ table ++ x ∷ [] → place ≡ length table → capacity ≤ reserved → Fresh new tree root place no_node room reserved
-fresh_new table new tree spare root free room capacity reserved place x k h made at grown =
-    let empty : length spare ≡ 0 = ap length (none_free table tree spare root free (room + 1) capacity k h) in
+pub ready_new : (table new : List Node) (tree : Tree) (spare : List ℕ) (root free room capacity reserved place : ℕ) (x : Node) → Kept table tree spare root free room capacity → 0 < room → free ≡ no_node → new ≡ table ++ x ∷ [] → x.left ≡ no_node → place ≡ length table → capacity ≤ reserved → Ready new tree root place room reserved
+ready_new table new tree spare root free room capacity reserved place x k more h made last at grown =
+    let empty : length spare ≡ 0 = ap length (none_free table tree spare root free room capacity k h) in
     let long : length new ≡ length table + 1 = ap length made ∙ length-append table (x ∷ []) in
-    let once : (j : ℕ) → uses j tree + one j place ≤ 1 = λ j.
-    elim (eqb j place) as (λ b. eqb j place ≡ b → uses j tree + cond b 1 0 ≤ 1) [
-      | true ↦ λ w. omega (arith, beyond table tree j k.stands (omega (arith, eqb-true _ _ w, at)))
-      | false ↦ λ w. omega (arith, k.once j)
-    ] refl in
+    let node : slice_get new place ≡ Some x = slice_get-get_or new place x (omega (arith, long, at)) ∙ ap Some (ap (λ t. slice_index_or t place x) made ∙ get_or_push table x x place (sym at)) in
     record {
-      spare = [];
-      beside = record {
-        left_is = k.is;
-        right_is = refl;
-        left = stays table new tree k.stands (λ i p. ap (λ t. slice_get t i) made ∙ slice_get-push table x i (inside_of table tree i k.stands p).0);
-        right = tt;
-        once = λ j. omega (arith, once j);
-        small = omega (arith, k.small);
-        inside = omega (arith, long, at);
-        place = omega (arith, k.fits, empty, at);
+      rest = [];
+      kept = record {
+        is = k.is;
+        stands = stays table new tree k.stands (λ i p. ap (λ t. slice_get t i) made ∙ slice_get-push table x i (inside_of table tree i k.stands p).0);
+        level = k.level;
+        rising = k.rising;
+        chained = (refl, omega (arith, long, at), omega (arith, k.fits, empty, at, more), ap next_in node ∙ last);
+        once = λ j. elim (eqb j place) as (λ b. eqb j place ≡ b → uses j tree + (cond b 1 0 + 0) ≤ 1) [
+          | true ↦ λ w. omega (arith, beyond table tree j k.stands (omega (arith, eqb-true _ _ w, at)))
+          | false ↦ λ w. omega (arith, k.once j)
+        ] refl;
+        small = k.small;
+        reach = omega (arith, k.reach, empty, long, grown);
+        fits = omega (arith, k.fits, empty, long);
       };
-      chained = refl;
-      once = λ j. omega (arith, once j);
-      reach = omega (arith, k.reach, empty, long, grown);
-      fits = omega (arith, k.fits, empty, long);
     }
 
 -- what a vector holds once its slice was changed

@@ -4,8 +4,8 @@ use Rattle.km_map.specs.declared.entries.Entry.{Entry}
 use Rattle.km_map.specs.Entries.{IsRising, ends_behind, end_of}
 use Rattle.km_tree.specs.declared.node.Node.{Node}
 use Rattle.km_tree.specs.Tables.{TreeAt, Stands, height_at}
-use Rattle.km_tree.specs.Trees.{Tree, root_of, entries_of, no_node}
-use Rattle.km_tree.proofs.Finds.{or_else, or_else_none, ended_left, behind_left, first_here, rising-left, rising-right}
+use Rattle.km_tree.specs.Trees.{Tree, root_of, entries_of, no_node, or_else}
+use Rattle.km_tree.proofs.Finds.{or_else_none, ended_left, behind_left, first_here, rising-left, rising-right}
 use Rattle.km_tree.proofs.Tables.{one_tree, leaf_at, lower, topped, Topped}
 
 -- a search below a place: what it finds there, or else what it has found, is the answer

@@ -1,7 +1,7 @@
 use Rattle.std.specs.Prelude.{◌≡◌, ◌==◌, ℕ, zero, suc, ◌+◌, ◌≤◌, ◌<◌, ◌^◌, length, List, [], ◌∷◌, Option, None, Some, slice_get, if◌then◌else◌}
 use Rattle.km_map.specs.Entries.{IsRising}
 use Rattle.km_tree.specs.declared.node.Node.{Node}
-use Rattle.km_tree.specs.Tables.{Stands, Sides, height_at}
+use Rattle.km_tree.specs.Tables.{Stands, height_at}
 use Rattle.km_tree.specs.Trees.{Tree, Leaf, Fork, IsLevel, entries_of, root_of, size_of, uses, one, no_node}
 
 -- a node over what is read at its sides
@@ -55,13 +55,10 @@ pub record AnyKept (table : List Node) (root free room capacity : ℕ) : Type 0 
 pub record AnyRoom (table : List Node) (free capacity : ℕ) : Type 0 where
   pub root : ℕ
   pub room : ℕ
-  pub any : AnyKept table root free (room + 1) capacity
+  pub more : 0 < room
+  pub any : AnyKept table root free room capacity
 
--- a place was taken for a node to come
-pub record Fresh (table : List Node) (tree : Tree) (root new free room capacity : ℕ) : Type 0 where
-  pub spare : List ℕ
-  pub beside : Sides table tree root new no_node Leaf
-  pub chained : Chained table free spare
-  pub once : (i : ℕ) → uses i tree + one i new + times i spare ≤ 1
-  pub reach : length table + room ≤ capacity + length spare
-  pub fits : length table + room ≤ no_node + length spare
+-- a place is free for a node to come
+pub record Ready (table : List Node) (tree : Tree) (root free room capacity : ℕ) : Type 0 where
+  pub rest : List ℕ
+  pub kept : Kept table tree (free ∷ rest) root free room capacity

@@ -1,8 +1,8 @@
-use Rattle.std.specs.Prelude.{◌≡◌, ℕ, ◌+◌, ◌≤◌, ◌<◌, ◌^◌, length, max, ◌==◌, List, Option, None, Some, slice_get, if◌then◌else◌}
+use Rattle.std.specs.Prelude.{◌≡◌, ℕ, ◌+◌, ◌≤◌, ◌<◌, ◌^◌, length, max, ◌==◌, List, Option, None, Some, Result, Ok, Err, slice_get, if◌then◌else◌}
 use Rattle.km_map.specs.Entries.{IsRising}
 use Rattle.km_map.specs.declared.entries.Entry.{Entry}
 use Rattle.km_tree.specs.declared.node.Node.{Node}
-use Rattle.km_tree.specs.Trees.{Tree, Leaf, Fork, entries_of, height_of, no_node, root_of, size_of, one, uses, IsLevel}
+use Rattle.km_tree.specs.Trees.{Tree, Leaf, Fork, entries_of, height_of, no_node, root_of, size_of, one, uses, IsLevel, hung, met_in}
 
 -- the node over two trees
 abbrev pub node_of : Tree → Entry → Tree → Node
@@ -55,6 +55,11 @@ pub record Made (old new : List Node) (t : Tree) (root : ℕ) : Type 0 where
   pub rest : (i : ℕ) → uses i t ≡ 0 → slice_get new i ≡ slice_get old i
   pub same_length : length new ≡ length old
 
+-- an entry was hung into a tree and meets none of it, or else nothing changed, and the lowest that it meets is told
+abbrev pub Tried : List Node → List Node → ℕ → Entry → Tree → Option ℕ → Result ℕ ℕ → Type 0
+Tried old new n e t other (Ok root) = (met_in e.span other t ≡ None) × Made old new (hung n e t) root
+Tried old new n e t other (Err slot) = (met_in e.span other t ≡ Some slot) × (new ≡ old)
+
 -- some tree stands at a place
 pub record AnyHeld (table : List Node) (root : ℕ) : Type 0 where
   pub tree : Tree
@@ -66,11 +71,12 @@ pub record AnySides (table : List Node) (l k r : ℕ) : Type 0 where
   pub right : Tree
   pub sides : Sides table left l k r right
 
--- some level tree stands at a place, apart from another place
+-- some level tree of rising entries stands at a place, apart from another place
 pub record AnyBeside (table : List Node) (root n : ℕ) : Type 0 where
   pub tree : Tree
   pub beside : Sides table tree root n no_node Leaf
   pub level : IsLevel tree
+  pub rising : IsRising (entries_of tree)
 
 -- a place of the table where a tree of rising entries stands
 pub record TreeAt (table : List Node) (root : ℕ) : Type 0 where

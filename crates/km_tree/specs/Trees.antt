@@ -1,4 +1,6 @@
 use Rattle.std.specs.Prelude.{ℕ, ◌+◌, ◌≤◌, max, nat_lt, ◌==◌, List, [], ◌∷◌, ◌++◌, Option, None, Some, if◌then◌else◌}
+use Rattle.km_base.specs.declared.spans.Span.{Span}
+use Rattle.km_map.specs.Entries.{meets, slot_where}
 use Rattle.km_map.specs.declared.entries.Entry.{Entry}
 use Rattle.km_tree.specs.declared.node.Placed.{Placed}
 
@@ -74,6 +76,19 @@ levelled l k e r =
     if nat_lt (height_of r + 1) (height_of l) then lifted_left (leant_left l) k e r
     else if nat_lt (height_of l + 1) (height_of r) then lifted_right l k e (leant_right r)
     else Fork l k e r
+
+-- what is there, or else another
+abbrev pub or_else : {X : Type 0} → Option X → Option X → Option X
+or_else None b = b
+or_else (Some a) b = Some a
+
+-- the slot of an entry that meets a span, or else another
+abbrev pub met_by : Span → Option ℕ → Entry → Option ℕ
+met_by s other e = if meets s e then Some e.slot else other
+
+-- the slot of the lowest entry of a tree that meets a span, or else another
+abbrev pub met_in : Span → Option ℕ → Tree → Option ℕ
+met_in s other t = or_else (slot_where (meets s) (entries_of t)) other
 
 -- the tree with one more entry
 abbrev pub hung : ℕ → Entry → Tree → Tree

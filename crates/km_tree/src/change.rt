@@ -1,32 +1,64 @@
 //! How an entry comes into a tree and leaves it, along one path.
 
-ghost use Rattle.std.specs.Prelude.{◌≡◌};
+ghost use Rattle.std.specs.Prelude.{◌≡◌, ◌<◌};
+ghost use Rattle.km_map.specs.Entries.{IsRising};
 ghost use Rattle.km_map.specs.declared.entries.Entry.{Entry as KeptEntry};
-ghost use Rattle.km_tree.specs.Tables.{AnyBeside, AnyFork, AnyLevel, AnyPair, Held, Made, Pair, Sides};
-ghost use Rattle.km_tree.specs.Trees.{Tree, Leaf, Fork, IsLevel, gone, hung, joined, lowest, no_node, unhung};
+ghost use Rattle.km_tree.specs.Tables.{AnyBeside, AnyFork, AnyLevel, AnyPair, Held, Made, Pair, Sides, Tried};
+ghost use Rattle.km_tree.specs.Trees.{Tree, Leaf, Fork, IsLevel, entries_of, gone, joined, lowest, met_by, no_node, unhung};
 
 use crate::node::{NO_NODE, Node, Placed};
 use crate::shape::{fork, height, level, relevel_left, relevel_right};
+use km_base::Span;
 use km_map::Entry;
 
-/// Hangs an entry into a tree, as the node at a place that is not in it, and gives the new root.
-pub fn hang(nodes: &mut [Node], root: u32, new: u32, entry: Entry) -> u32
-    requires { AnyBeside nodes.old root new }
-    ensures { (t : Tree) → IsLevel t → Sides nodes.old t root new no_node Leaf → Made nodes.old nodes.new (hung new entry t) result }
+/// The slot of an entry that starts behind the start of a span, if it meets it, or else another.
+fn met_or(entry: &Entry, span: &Span, other: Option<u32>) -> Option<u32>
+    requires { span.now.start.0 < entry.now.span.start.0 }
+    ensures { result ≡ met_by span.now other entry.now }
+{
+    if entry.span.start.0 - span.start.0 < span.size {
+        Some(entry.slot)
+    } else {
+        other
+    }
+}
+
+/// Hangs an entry that meets none into a tree, as the node at a place that is not in it, and gives
+/// the new root. Else it gives the slot of the lowest that it meets, and nothing changes.
+///
+/// That one has the start of the entry or is the first behind it, so it lies on the way down. `met`
+/// is the slot of the first behind it so far, if the entry meets that.
+pub fn try_hang(
+    nodes: &mut [Node],
+    root: u32,
+    new: u32,
+    entry: Entry,
+    met: Option<u32>,
+) -> Result<u32, u32>
+    requires tree { AnyBeside nodes.old root new }
+    requires sized { 0 < entry.span.size }
+    ensures { (t : Tree) → IsLevel t → IsRising (entries_of t) → Sides nodes.old t root new no_node Leaf → Tried nodes.old nodes.new new entry t met result }
 {
     if root == NO_NODE {
+        if let Some(slot) = met {
+            return Err(slot);
+        }
         fork(nodes, NO_NODE, new, entry, NO_NODE);
-        return new;
+        return Ok(new);
     }
     let node = nodes[root as usize];
-    if entry.span.start.0 < node.entry.span.start.0 {
+    let span = node.entry.span;
+    if entry.span.start.0 < span.start.0 {
+        let met = met_or(&node.entry, &entry.span, met);
         let before = height(nodes, node.left);
-        let left = hang(nodes, node.left, new, entry);
-        relevel_left(nodes, root, before, left)
+        let left = try_hang(nodes, node.left, new, entry, met)?;
+        Ok(relevel_left(nodes, root, before, left))
+    } else if entry.span.start.0 - span.start.0 < span.size {
+        Err(node.entry.slot)
     } else {
         let before = height(nodes, node.right);
-        let right = hang(nodes, node.right, new, entry);
-        relevel_right(nodes, root, before, right)
+        let right = try_hang(nodes, node.right, new, entry, met)?;
+        Ok(relevel_right(nodes, root, before, right))
     }
 }
 

@@ -1,6 +1,7 @@
 //! What a place of the table holds.
 
 use km_map::Entry;
+use std::mem::size_of;
 
 /// What stands where no node does. It is no place, since a table has at most as many.
 pub const NO_NODE: u32 = u32::MAX;
@@ -15,6 +16,8 @@ pub struct Node {
     pub right: u32,
     pub height: u32,
 }
+
+const _: () = prove!(size_of::<Node>() == 40);
 
 /// An entry beside the place of its node.
 #[derive(Clone, Copy, Drop)]

@@ -28,9 +28,17 @@ fn span(offset: u64, size: u64) -> Span
 fn check_table<M: ObjectMap>(rt: &impl Abort, mut map: M) {
     for slot in 0..7u32 {
         let span = span(0x1000 + 16 * u64::from(slot), 16);
-        assert_eq!(rt; map.meeting(&span), None);
         assert!(rt; map.spare() > 0);
-        map.insert(span, slot);
+        assert_eq!(rt; map.try_insert(span, slot), Ok(()));
+    }
+    for (a, size, lowest) in [
+        (0x100f, 1, 0),
+        (0x0ff8, 9, 0),
+        (0x1058, 16, 5),
+        (0x101f, 2, 1),
+    ] {
+        assert!(rt; map.spare() > 0);
+        assert_eq!(rt; map.try_insert(span(a, size), 9), Err(lowest));
     }
     assert_eq!(rt; map.remove(Addr(B + 0x1030)), Some(3));
     for (a, slot) in [
@@ -61,9 +69,8 @@ fn two_million_spans_come_in_the_middle(rt: HostRuntime) -> Result<(), Fail> {
     for i in 0..HALF {
         for slot in [i, 2 * HALF - 1 - i] {
             let span = span(8 * u64::from(slot), 8);
-            assert_eq!(rt; map.meeting(&span), None);
             assert!(rt; map.spare() > 0);
-            map.insert(span, slot);
+            assert_eq!(rt; map.try_insert(span, slot), Ok(()));
         }
     }
     for slot in 0..2 * HALF {
@@ -90,14 +97,11 @@ fn a_tree_answers_as_a_sorted_map_does(rt: HostRuntime) -> Result<(), Fail> {
         let probe = Addr(wanted.start.0 + draw / 800 % 16);
         assert_eq!(rt; tree.find(probe), sorted.find(probe));
         assert_eq!(rt; tree.find_start(probe), sorted.find_start(probe));
-        let meeting = tree.meeting(&wanted);
-        assert_eq!(rt; meeting, sorted.meeting(&wanted));
         if draw / 12_800 % 2 == 1 {
             assert_eq!(rt; tree.remove(wanted.start), sorted.remove(wanted.start));
-        } else if meeting.is_none() && tree.spare() > 0 {
-            tree.insert(wanted, n);
+        } else if tree.spare() > 0 {
             assert!(rt; sorted.spare() > 0);
-            sorted.insert(wanted, n);
+            assert_eq!(rt; tree.try_insert(wanted, n), sorted.try_insert(wanted, n));
         }
         assert_eq!(rt; tree.spare(), sorted.spare());
     }

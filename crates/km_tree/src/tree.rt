@@ -1,10 +1,10 @@
 //! A map that is a balanced tree.
 
-ghost use Rattle.std.specs.Prelude.{◌≡◌, ℕ, ◌+◌, List, [], IfOk, vec_capacity};
+ghost use Rattle.std.specs.Prelude.{◌≡◌, ℕ, ◌<◌, List, [], IfOk, vec_capacity};
 ghost use Rattle.km_tree.specs.Trees.{Tree};
-ghost use Rattle.km_tree.specs.Maps.{AnyRoom, Fresh, Kept};
+ghost use Rattle.km_tree.specs.Maps.{AnyRoom, Kept, Ready};
 
-use crate::change::{hang, unhang};
+use crate::change::{try_hang, unhang};
 use crate::node::{NO_NODE, Node};
 use crate::search::ending_behind;
 use km_base::{Addr, NoMemory, Span};
@@ -39,14 +39,13 @@ impl Model for TreeMap {
     ghost invariant = { λ m. AnyKept m.nodes.items m.root m.free m.room (vec_capacity m.nodes) };
 }
 
-/// Takes a place that is free, or else the first that was never used. Gives it, and the next free
-/// place.
-fn take_place(nodes: &mut Vec<Node>, free: u32, entry: Entry) -> (u32, u32)
+/// A free place: the one that is given, or else the first that was never used.
+fn ready(nodes: &mut Vec<Node>, free: u32, entry: Entry) -> u32
     requires { AnyRoom nodes.old.items free (vec_capacity nodes.old) }
-    ensures { (tree : Tree) (spare : List ℕ) (root room : ℕ) → Kept nodes.old.items tree spare root free (room + 1) (vec_capacity nodes.old) → Fresh nodes.new.items tree root result.0 result.1 room (vec_capacity nodes.new) }
+    ensures { (tree : Tree) (spare : List ℕ) (root room : ℕ) → 0 < room → Kept nodes.old.items tree spare root free room (vec_capacity nodes.old) → Ready nodes.new.items tree root result room (vec_capacity nodes.new) }
 {
     if free != NO_NODE {
-        return (free, nodes[free as usize].left);
+        return free;
     }
     let place = nodes.len() as u32;
     let node = Node {
@@ -58,7 +57,7 @@ fn take_place(nodes: &mut Vec<Node>, free: u32, entry: Entry) -> (u32, u32)
     let Ok(()) = nodes.push(node) else {
         unreachable!()
     };
-    (place, NO_NODE)
+    place
 }
 
 impl TreeMap {
@@ -83,12 +82,14 @@ impl ObjectMap for TreeMap {
 
     ghost room = { λ m. m.room };
 
-    fn insert(&mut self, span: Span, slot: u32) {
+    fn try_insert(&mut self, span: Span, slot: u32) -> Result<(), u32> {
         let entry = Entry { span, slot };
-        let (new, free) = take_place(&mut self.nodes, self.free, entry);
-        self.free = free;
-        self.root = hang(&mut self.nodes, self.root, new, entry);
+        self.free = ready(&mut self.nodes, self.free, entry);
+        let next = self.nodes[self.free as usize].left;
+        self.root = try_hang(&mut self.nodes, self.root, self.free, entry, None)?;
+        self.free = next;
         self.room -= 1;
+        Ok(())
     }
 
     fn remove(&mut self, start: Addr) -> Option<u32> {
@@ -111,13 +112,6 @@ impl ObjectMap for TreeMap {
     fn find_start(&self, a: Addr) -> Option<u32> {
         match ending_behind(&self.nodes, self.root, a.0) {
             Some(e) if e.span.start.0 == a.0 => Some(e.slot),
-            _ => None,
-        }
-    }
-
-    fn meeting(&self, span: &Span) -> Option<u32> {
-        match ending_behind(&self.nodes, self.root, span.start.0) {
-            Some(e) if e.span.start.0 < span.start.0 + span.size => Some(e.slot),
             _ => None,
         }
     }

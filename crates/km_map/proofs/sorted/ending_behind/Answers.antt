@@ -1,5 +1,5 @@
-use Rattle.km_map.proofs.Places.{find-ends_behind, gets}
+use Rattle.km_map.proofs.Places.{found_at}
 use Rattle.km_map.proofs.sorted.ending_behind.Goals as goal
 
 pub returns : goal.returns
-returns c = rw (find-ends_behind, ← c.place.ensures) (gets _ _ c.get.result c.get.ensures.lookup.3)
+returns c = found_at _ _ _ c.get.result c.place.ensures c.get.ensures.lookup.3
