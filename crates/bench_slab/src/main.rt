@@ -1,6 +1,6 @@
 //! Allocates blocks of 8 bytes, frees every second one, and allocates as many again, over and over until ten million
 //! calls are made, in memories of their own: 500,000 blocks, or as many as the first word says. It prints how many of
-//! these calls succeed. `tools/bench.sh` times it: the blocks that live at once are to make little difference.
+//! these calls succeed. `bench/layers.sh` times it: the blocks that live at once are to make little difference.
 #![tactic(auto)]
 
 ghost use Rattle.km_slab.specs.Blocks.{Fits};

@@ -1,6 +1,6 @@
 //! One bit of a word.
 
-ghost use Rattle.std.specs.Prelude.{◌≡◌, ◌≢◌, ℕ, ◌<◌, ◌≤◌, ◌^◌, IsTrue, ◌↔◌};
+ghost use Rattle.std.specs.Prelude.{◌≡◌, ◌≢◌, ℕ, ◌+◌, ◌<◌, ◌≤◌, ◌^◌, IsTrue, ◌↔◌};
 ghost use Rattle.std.specs.Int.{bit_at};
 
 /// A word with a bit set.
@@ -8,6 +8,7 @@ pub fn with_bit(word: u64, k: u32) -> u64
     requires { k < 64 }
     ensures set { bit_at result k ≡ 1 }
     ensures others { (i : ℕ) → i ≢ k → bit_at result i ≡ bit_at word i }
+    ensures more { bit_at word k ≡ 0 → result ≡ word + 2 ^ k }
 {
     word | (1 << k)
 }
@@ -17,6 +18,7 @@ pub fn without_bit(word: u64, k: u32) -> u64
     requires { k < 64 }
     ensures clear { bit_at result k ≡ 0 }
     ensures others { (i : ℕ) → i < 64 → i ≢ k → bit_at result i ≡ bit_at word i }
+    ensures fewer { bit_at word k ≡ 1 → result + 2 ^ k ≡ word }
 {
     word & !(1 << k)
 }

@@ -1,7 +1,7 @@
 //! A set of numbers below a bound, that tells the lowest one of a range of words.
 
-ghost use Rattle.std.specs.Prelude.{◌≡◌, ◌+◌, ◌*◌, ◌<◌, ◌≤◌, ◌==◌, ◌||◌, ◌&&◌, ◌^◌, not, ℕ, length, false, None, IsTrue, IfOk, IfSome};
-ghost use Rattle.km_marks.specs.Sets.{has};
+ghost use Rattle.std.specs.Prelude.{◌≡◌, ◌+◌, ◌*◌, ◌<◌, ◌≤◌, ◌==◌, ◌||◌, ◌&&◌, ◌^◌, not, ℕ, List, length, true, false, None, IsTrue, IfOk, IfSome};
+ghost use Rattle.km_marks.specs.Sets.{has, with_mark};
 
 use crate::bits::{has_bit, lowest_bit, with_bit, without_bit};
 use km_base::NoMemory;
@@ -50,6 +50,7 @@ impl Marks {
         requires { i < 64 * length self.old }
         ensures words { length self.new ≡ length self.old }
         ensures inserted { (j : ℕ) → has self.new j ≡ (j == i || has self.old j) }
+        ensures more { has self.old i ≡ false → self.new ≡ with_mark self.old i }
     {
         self.words[i / 64] = with_bit(self.words[i / 64], (i % 64) as u32);
     }
@@ -59,6 +60,7 @@ impl Marks {
         requires { i < 64 * length self.old }
         ensures words { length self.new ≡ length self.old }
         ensures removed { (j : ℕ) → has self.new j ≡ (not (j == i) && has self.old j) }
+        ensures back { (words : List ℕ) → self.old ≡ with_mark words i → has self.old i ≡ true → self.new ≡ words }
     {
         self.words[i / 64] = without_bit(self.words[i / 64], (i % 64) as u32);
     }

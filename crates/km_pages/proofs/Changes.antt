@@ -10,7 +10,7 @@ use Rattle.km_pages.proofs.Touching.{run_at_page}
 use Rattle.km_model.specs.Placement.{page_start}
 use Rattle.km_pages.proofs.Writes.{inside, outside, where_is, length_written}
 
-same_self : (k : Use) → same_use k k ≡ true
+pub same_self : (k : Use) → same_use k k ≡ true
 same_self Plain = refl
 same_self Section = refl
 same_self Stack = refl
@@ -19,19 +19,19 @@ same_self Large = refl
 same_self Vmalloc = refl
 same_self Boot = refl
 
-free_none : {X : Type 0} (o : Option X) → is_none o ≡ true → o ≡ None
+pub free_none : {X : Type 0} (o : Option X) → is_none o ≡ true → o ≡ None
 free_none None e = refl
 free_none (Some x) e = absurd cc
 
 -- the lengths of runs of a use where pages were written
-run_inside : (pages : List (Option Run)) (p n : ℕ) (run : Option Run) (k : Use) (q : ℕ) → p + n ≤ length pages → p ≤ q → q < p + n → run_from (with_run pages p n run) k q ≡ length_if k q run
+pub run_inside : (pages : List (Option Run)) (p n : ℕ) (run : Option Run) (k : Use) (q : ℕ) → p + n ≤ length pages → p ≤ q → q < p + n → run_from (with_run pages p n run) k q ≡ length_if k q run
 run_inside pages p n run k q room le lt = ap (length_if k q) (inside pages p n run q room le lt)
 
 run_outside : (pages : List (Option Run)) (p n : ℕ) (run : Option Run) (k : Use) (q : ℕ) → p + n ≤ length pages → (q < p) ⊎ (p + n ≤ q) → run_from (with_run pages p n run) k q ≡ run_from pages k q
 run_outside pages p n run k q room there = ap (length_if k q) (outside pages p n run q room there)
 
 -- the length of one run
-length_here : (run : Run) (k : Use) (q : ℕ) → run.kind ≡ k → run.first ≡ q → length_if k q (Some run) ≡ Some run.len
+pub length_here : (run : Run) (k : Use) (q : ℕ) → run.kind ≡ k → run.first ≡ q → length_if k q (Some run) ≡ Some run.len
 length_here run k q e f =
     rw (ap (λ u. same_use u k) e ∙ same_self k) (rw (eq-eqb run.first q f))
 

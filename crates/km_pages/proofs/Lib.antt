@@ -4,3 +4,5 @@ pub mod Touching
 pub mod Laying
 pub mod Changes
 pub mod Owners
+pub mod Undoing
+pub mod Beside

@@ -1,11 +1,11 @@
-use Rattle.std.proofs.Common.{◌≡◌, ℕ, suc, ◌+◌, ◌-◌, ◌*◌, ◌/◌, ◌<◌, ◌≤◌, Bool, true, false, ◌==◌, is_none, nat_le, nat_lt, List, [], ◌∷◌, Option, Some, None, option_map, refl, sym, ap, ◌∙◌, subst, arith, inl, inr, leb-true, ltb-true, lt-ltb}
+use Rattle.std.proofs.Common.{◌≡◌, ℕ, suc, ◌+◌, ◌-◌, ◌*◌, ◌/◌, ◌<◌, ◌≤◌, Bool, true, false, ◌==◌, is_none, nat_le, nat_lt, List, [], ◌∷◌, ◌⊎◌, Option, Some, None, option_map, refl, sym, ap, ◌∙◌, subst, arith, inl, inr, leb-true, ltb-true, lt-ltb}
 use Rattle.std.specs.List.{list_any, All}
 use Rattle.std.proofs.lemmas.Bool.{not-false, and_parts, and_from, or_cases, or_left, or_right, eqb-true, eq-eqb, le-leb, false_from_ne_true}
 use Rattle.km_model.specs.Memory.{base}
 use Rattle.km_model.specs.Blocks.{is_within}
 use Rattle.km_model.specs.Placement.{Allocation, Use, SlotTable, SectionRun, StackPage, SlabBlock, LargeRun, PlainRun, BootRun, HeadBlock, AreaRun, page_start, page_of, touches}
-use Rattle.km_model.specs.Answers.{is_plain_at, is_boot_with}
-use Rattle.km_pages.specs.declared.runs.Use.TheVariants.{Plain, Boot}
+use Rattle.km_model.specs.Answers.{is_kmalloc_at, is_plain_at, is_boot_with}
+use Rattle.km_pages.specs.declared.runs.Use.TheVariants.{Plain, Slab, Large, Boot}
 use Rattle.km_pages.specs.declared.runs.Run.{Run}
 use Rattle.km_pages.specs.Uses.{use_of}
 use Rattle.km_pages.specs.Runs.{run_with, run_at, AreRuns}
@@ -65,6 +65,21 @@ boot_is PlainRun q e = absurd cc
 boot_is BootRun q e = (refl, e)
 boot_is (HeadBlock s) q e = absurd cc
 boot_is (AreaRun s) q e = absurd cc
+
+kmalloc_is : (u : Use) (q : Bool) → elim u as (λ _. Bool) [ SlabBlock ↦ q | LargeRun ↦ q | _ ↦ false ] ≡ true → (q ≡ true) × ((use_of u ≡ Slab) ⊎ (use_of u ≡ Large))
+kmalloc_is SlotTable q e = absurd cc
+kmalloc_is (SectionRun n) q e = absurd cc
+kmalloc_is StackPage q e = absurd cc
+kmalloc_is SlabBlock q e = (e, inl refl)
+kmalloc_is LargeRun q e = (e, inr refl)
+kmalloc_is PlainRun q e = absurd cc
+kmalloc_is BootRun q e = absurd cc
+kmalloc_is (HeadBlock s) q e = absurd cc
+kmalloc_is (AreaRun s) q e = absurd cc
+
+-- a block of kmalloc that begins at an address
+pub kmalloc_there : (a : ℕ) (x : Allocation) → is_kmalloc_at a x ≡ true → (x.start ≡ a) × ((use_of x.«use» ≡ Slab) ⊎ (use_of x.«use» ≡ Large))
+kmalloc_there a x h = let k = kmalloc_is x.«use» (x.start == a) h in (eqb-true x.start a k.0, k.1)
 
 -- what touches a page of a run lies in that run
 owner : (pages : List (Option Run)) (p : ℕ) (run : Run) (x : Allocation) → run_with pages p ≡ Some run → IsLaid pages x → touches p x ≡ true → IsIn run x

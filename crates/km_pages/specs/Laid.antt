@@ -1,5 +1,5 @@
-use Rattle.std.specs.Prelude.{◌≡◌, ℕ, ◌+◌, ◌*◌, ◌<◌, ◌≤◌, true, false, List, Option, Some}
-use Rattle.std.specs.List.{All}
+use Rattle.std.specs.Prelude.{◌≡◌, ℕ, ◌+◌, ◌*◌, ◌<◌, ◌≤◌, true, false, List, Option, Some, ◌⊎◌}
+use Rattle.std.specs.List.{All, AllPairs}
 use Rattle.km_pages.specs.declared.runs.Use.{Use}
 use Rattle.km_pages.specs.declared.runs.Run.{Run}
 use Rattle.km_pages.specs.Uses.{use_of}
@@ -42,3 +42,11 @@ pub record BeginAt (used : List Allocation) (n a b : ℕ) : Type 0 where
   pub low : a ≤ b
   pub high : b < a + 4096 * n
   pub alone : All (λ (x : Allocation). a ≤ x.start → x.start < a + 4096 * n → x.start ≡ b) used
+
+-- two allocations have no byte in common
+abbrev pub IsBeside : Allocation → Allocation → Type 0
+IsBeside x y = (x.start + x.size ≤ y.start) ⊎ (y.start + y.size ≤ x.start)
+
+-- no two of these allocations meet
+abbrev pub AreApart : List Allocation → Type 0
+AreApart used = AllPairs IsBeside used

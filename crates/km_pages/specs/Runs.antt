@@ -67,3 +67,11 @@ pub record AreRuns (pages : List (Option Run)) : Type 0 where
   pub to : (p : ℕ) (run : Run) → run_with pages p ≡ Some run → p < run.first + run.len
   pub end : (p : ℕ) (run : Run) → run_with pages p ≡ Some run → run.first + run.len ≤ length pages
   pub all : (p q : ℕ) (run : Run) → run_with pages p ≡ Some run → run.first ≤ q → q < run.first + run.len → run_with pages q ≡ Some run
+
+-- a run of a use was taken of pages that were free
+pub record IsTaken (pages new : List (Option Run)) (kind : Use) (a n : ℕ) : Type 0 where
+  pub some : 0 < n
+  pub start : a ≡ page_start (page_of a)
+  pub room : page_of a + n ≤ length pages
+  pub free : are_free pages n (page_of a) ≡ true
+  pub new_is : new ≡ taken pages kind a n

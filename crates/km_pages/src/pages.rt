@@ -1,6 +1,6 @@
 //! The page host.
 
-ghost use Rattle.std.specs.Prelude.{◌≡◌, ◌+◌, ◌*◌, ◌<◌, ◌≤◌, ◌^◌, ◌==◌, ◌&&◌, IsTrue, ℕ, List, ◌∷◌, [], ◌++◌, length, replicate, Some, None, IfOk, OnErr, IfSome, true, false, Option, ◌↔◌, ◌⊎◌, is_ok, option_map, if◌then◌else◌};
+ghost use Rattle.std.specs.Prelude.{◌≡◌, ◌+◌, ◌*◌, ◌<◌, ◌≤◌, ◌^◌, ◌==◌, ◌&&◌, IsTrue, ℕ, List, ◌∷◌, [], ◌++◌, length, replicate, Some, None, Ok, IfOk, OnErr, IfSome, true, false, Option, ◌↔◌, ◌⊎◌, is_ok, option_map, if◌then◌else◌};
 ghost use Rattle.std.specs.Result.{result_ok};
 ghost use Rattle.std.specs.List.{All, list_any};
 ghost use Rattle.km_model.specs.Memory.{base};
@@ -10,7 +10,7 @@ ghost use Rattle.km_pages.specs.declared.runs.Use.{Use};
 ghost use Rattle.km_pages.specs.declared.runs.Use.TheVariants.{Boot, Plain, Slab};
 ghost use Rattle.km_pages.specs.declared.runs.Run.{Run};
 ghost use Rattle.km_pages.specs.Uses.{same_use};
-ghost use Rattle.km_pages.specs.Runs.{address_of, first_fit, length_if, lowest_free, place, run_at, run_from, run_with, given, taken, with_run};
+ghost use Rattle.km_pages.specs.Runs.{IsTaken, address_of, first_fit, length_if, lowest_free, place, run_at, run_from, run_with, given, taken, with_run};
 ghost use Rattle.km_pages.specs.Laid.{AreLaid, BeginAt, Fills};
 
 use crate::errors::{NoRoom, NotAllocated};
@@ -140,6 +140,7 @@ impl Pages {
         ensures free { IfOk result (λ m. m ≡ replicate pages None) }
         ensures size { IfOk result (λ m. length m ≡ pages) }
         ensures runs { IfOk result (λ m. (kind : Use) (p : ℕ) → run_from m kind p ≡ None) }
+        ensures laid { IfOk result (λ m. AreLaid m []) }
     {
         match vec![in alloc; None; pages as usize] {
             Ok(pages) => Ok(Pages { pages }),
@@ -162,6 +163,7 @@ impl Pages {
         ensures size { length self.new ≡ length self.old }
         ensures runs { IfOk result (λ a. (p : ℕ) → run_from self.new kind p ≡ (if p == page_of a.0 then Some n else run_from self.old kind p)) }
         ensures others { (other : Use) (p : ℕ) → same_use kind other ≡ false → run_from self.new other p ≡ run_from self.old other p }
+        ensures took { IfOk result (λ a. IsTaken self.old self.new kind a.0 n) }
         ensures laid { IfOk result (λ a. (used : List Allocation) (x : Allocation) → AreLaid self.old used → Fills kind n a.0 x → AreLaid self.new (used ++ x ∷ [])) }
     {
         let Some(first) = lowest_room(&self.pages, n as usize) else {
@@ -184,6 +186,7 @@ impl Pages {
         ensures size { length self.new ≡ length self.old }
         ensures runs { IfOk result (λ _. (p : ℕ) → run_from self.new kind p ≡ (if p == page_of start.0 then None else run_from self.old kind p)) }
         ensures others { (other : Use) (p : ℕ) → same_use kind other ≡ false → run_from self.new other p ≡ run_from self.old other p }
+        ensures back { (before : List (Option Run)) (n : ℕ) → IsTaken before self.old kind start.0 n → (result ≡ Ok n) × (self.new ≡ before) }
         ensures laid { IfOk result (λ _. (used : List Allocation) → AreLaid self.old used → same_use kind Slab ≡ false → AreLaid self.new (without_allocation used start.0)) }
         ensures emptied { IfOk result (λ n. (used : List Allocation) (b : ℕ) → AreLaid self.old used → BeginAt used n start.0 b → AreLaid self.new (without_allocation used b)) }
         ensures plain { kind ≡ Plain → (used : List Allocation) → AreLaid self.old used → list_any (is_plain_at start.0) used ≡ is_ok result }

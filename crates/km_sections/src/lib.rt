@@ -2,6 +2,7 @@
 #![tactic(auto)]
 
 pub mod errors;
+pub mod laws;
 pub mod sections;
 #[cfg(test)]
 mod tests;

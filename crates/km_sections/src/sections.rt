@@ -1,6 +1,7 @@
 //! The section host.
 
 ghost use Rattle.std.specs.Prelude.{◌≡◌, ◌+◌, ◌*◌, ◌<◌, ◌≤◌, ◌==◌, ℕ, List, ◌∷◌, [], ◌++◌, length, map, Some, None, IfOk, OnErr, option_map, codes, bytes_eq, true, false, is_some};
+ghost use Rattle.std.specs.List.{All};
 ghost use Rattle.std.specs.Result.{result_ok};
 ghost use Rattle.km_base.specs.declared.spans.Span.{Span};
 ghost use Rattle.km_model.specs.Placement.{Allocation, lowest_run, page_start, pages_for, run_place};
@@ -9,7 +10,7 @@ ghost use Rattle.km_pages.specs.declared.runs.Use.{Use};
 ghost use Rattle.km_pages.specs.declared.runs.Use.TheVariants.{Section};
 ghost use Rattle.km_pages.specs.Uses.{same_use};
 ghost use Rattle.km_pages.specs.Runs.{place, run_from, taken};
-ghost use Rattle.km_pages.specs.Laid.{AreLaid};
+ghost use Rattle.km_pages.specs.Laid.{AreLaid, IsBeside};
 ghost use Rattle.km_sections.specs.Named.{AreSections, answer_of, refused_first, section, section_answer};
 ghost use Rattle.km_sections.specs.Parts.{allocation};
 
@@ -131,6 +132,7 @@ impl Sections {
         ensures others { (other : Use) (p : ℕ) → same_use Section other ≡ false → run_from pages.new other p ≡ run_from pages.old other p }
         ensures answer_among { (used : List Allocation) → AreLaid pages.old used → AreSections self.old used → answer_of result ≡ section_answer used name words (run_place (512 * length pages.old) used (pages_for (8 * words))) }
         ensures start_among { IfOk result (λ s. (used : List Allocation) → AreLaid pages.old used → s.start.0 ≡ page_start (lowest_run used (pages_for (8 * words)))) }
+        ensures apart { IfOk result (λ s. (used : List Allocation) → AreLaid pages.old used → All (λ (x : Allocation). IsBeside x (section name words s.start.0)) used) }
         ensures laid { IfOk result (λ s. (used : List Allocation) → AreLaid pages.old used → AreLaid pages.new (used ++ section name words s.start.0 ∷ [])) }
         ensures sections { IfOk result (λ s. (used : List Allocation) → AreSections self.old used → AreSections self.new (used ++ section name words s.start.0 ∷ [])) }
     {

@@ -13,3 +13,4 @@ pub mod Fresh
 pub mod Owners
 pub mod Shrinking
 pub mod Apart
+pub mod Undoing

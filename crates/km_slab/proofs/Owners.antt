@@ -1,10 +1,10 @@
-use Rattle.std.proofs.Common.{◌≡◌, ℕ, suc, not, ◌+◌, ◌*◌, ◌/◌, ◌<◌, ◌≤◌, Bool, true, false, ◌&&◌, ◌||◌, ◌==◌, is_none, List, [], ◌∷◌, ◌++◌, get_or, Option, Some, None, if◌then◌else◌, refl, sym, ap, ◌∙◌, subst, arith, inl, inr}
+use Rattle.std.proofs.Common.{◌≡◌, ℕ, suc, not, ◌+◌, ◌*◌, ◌/◌, ◌<◌, ◌≤◌, Bool, true, false, ◌&&◌, ◌||◌, ◌==◌, is_none, nat_le, List, [], ◌∷◌, ◌++◌, length, get_or, Option, Some, None, if◌then◌else◌, refl, sym, ap, ◌∙◌, subst, arith, inl, inr}
 use Rattle.std.specs.List.{list_any, All}
 use Rattle.std.proofs.lemmas.Bool.{and_parts, and_from, and_right, or_left, or_cases, eq-eqb, eqb-true, not-false, not_from_false, false_from_ne_true, both_ways, cases_Bool}
 use Rattle.std.proofs.lemmas.List.Elements.{All-push}
 use Rattle.std.proofs.lemmas.List.Folds.{list_any-append}
 use Rattle.km_model.specs.Memory.{base}
-use Rattle.km_model.specs.Placement.{Allocation, Use, SlotTable, SectionRun, StackPage, SlabBlock, LargeRun, PlainRun, BootRun, HeadBlock, AreaRun, page_start, page_of, touches, is_slab_block, without_allocation}
+use Rattle.km_model.specs.Placement.{Allocation, Use, SlotTable, SectionRun, StackPage, SlabBlock, LargeRun, PlainRun, BootRun, HeadBlock, AreaRun, page_start, page_of, touches, is_slab_block, kmalloc_span, kmalloc_use, without_allocation}
 use Rattle.km_pages.specs.declared.runs.Use as kinds
 use Rattle.km_pages.specs.declared.runs.Use.TheVariants.{Plain, Section, Stack, Slab, Large, Vmalloc, Boot}
 use Rattle.km_pages.specs.declared.runs.Run.{Run}
@@ -13,7 +13,7 @@ use Rattle.km_pages.specs.Runs.{run_with, run_at, run_from, length_if}
 use Rattle.km_pages.specs.Laid.{IsIn, IsLaid, AreLaid}
 use Rattle.km_pages.proofs.Touching.{in_run, begins_in, passing, free_same, run_at_page}
 use Rattle.km_pages.proofs.Laying.{same_run, all_left, any_left}
-use Rattle.km_slab.specs.Blocks.{Sheets, class_at, is_live, slot_start, is_slot, IsSlot, AreBlocks, Fits, is_large, is_large_at, is_block_at}
+use Rattle.km_slab.specs.Blocks.{Sheets, class_at, is_live, slot_start, is_slot, IsSlot, AreBlocks, Fits, IsBlock, is_large, is_large_at, is_block_at}
 use Rattle.km_slab.proofs.Slots.{any_in, any_weaker, page_of_slot, place_fits, slot_parts}
 use Rattle.km_slab.proofs.Places.{slab_there, kind_found}
 use Rattle.km_slab.proofs.Rows.{place_small}
@@ -239,3 +239,15 @@ other_there pages kind a n x l h other slab e =
 pub blocks_go : (sheets : Sheets) (pages : List (Option Run)) (used : List Allocation) (kind : kinds.Use) (a n : ℕ) → AreBlocks sheets used → AreLaid pages used → run_at pages kind a ≡ Some n → same_use Slab kind ≡ false
     → AreBlocks sheets (without_allocation used a)
 blocks_go sheets pages used kind a n blocks laid run other = blocks_left sheets used a blocks (λ k d lt. other_there pages kind a n (get_or used k d) (laid.each k d lt) run other)
+
+-- slab pages stay where others come and go
+pub fits_beside : (sheets : Sheets) (pages new : List (Option Run)) → Fits sheets pages → length new ≡ length pages → ((p : ℕ) → run_from new Slab p ≡ run_from pages Slab p) → Fits sheets new
+fits_beside sheets pages new fits same runs = record { count = fits.count ∙ sym same; runs = λ p. runs p ∙ fits.runs p; some = fits.some }
+
+pub request_block : (size a : ℕ) → IsBlock size a (record { «use» = kmalloc_use size; start = a; size = kmalloc_span size })
+request_block size a = record {
+  start = refl;
+  span = refl;
+  small = elim (nat_le size 4096) as (λ b. (elim (if b then SlabBlock else LargeRun) as (λ (_ : Use). Bool) [ SlabBlock ↦ true | HeadBlock _ ↦ true | _ ↦ false ]) ≡ b) [ true ↦ refl | false ↦ refl ];
+  large = λ e. ap (λ b. if b then SlabBlock else LargeRun) e;
+}

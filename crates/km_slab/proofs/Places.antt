@@ -29,7 +29,7 @@ cancelled class i j some e = elim (cases_lt i j) [
       let k : class * (i + 1 + (j - i - 1)) ≡ class * j = ap (λ n. class * n) d in
       omega (arith, some, e, m, k)
 
-place_of_slot : (b class p i j : ℕ) → 0 < class → b + 4096 * p + class * i ≡ b + 4096 * p + class * j → i ≡ j
+pub place_of_slot : (b class p i j : ℕ) → 0 < class → b + 4096 * p + class * i ≡ b + 4096 * p + class * j → i ≡ j
 place_of_slot b class p i j some e = cancelled class i j some (omega (arith, e))
 
 -- a run that is found has the use that was asked for

@@ -1,16 +1,16 @@
-use Rattle.std.specs.Prelude.{◌≡◌, ℕ, ◌+◌, ◌*◌, ◌/◌, ◌<◌, ◌≤◌, ◌^◌, Bool, true, false, not, ◌&&◌, ◌||◌, ◌⊎◌, ◌==◌, nat_le, nat_lt, List, slice_index_or, length, Option, Some, None, option_map, Result, Ok, Err}
+use Rattle.std.specs.Prelude.{◌≡◌, ℕ, ◌+◌, ◌*◌, ◌/◌, ◌<◌, ◌≤◌, ◌^◌, Bool, true, false, not, ◌&&◌, ◌||◌, ◌⊎◌, ◌==◌, nat_le, nat_lt, List, slice_index_or, slice_set, length, Option, Some, None, option_map, Result, Ok, Err}
 use Rattle.std.specs.List.{list_any, All}
 use Rattle.km_base.specs.declared.spans.Span.{Span}
 use Rattle.km_base.specs.declared.acts.Answer.{Answer}
 use Rattle.km_base.specs.declared.acts.Answer.TheVariants.{At, Refused}
 use Rattle.km_base.specs.declared.acts.Refusal.TheVariants as refusal
-use Rattle.km_marks.specs.Sets.{has}
+use Rattle.km_marks.specs.Sets.{has, with_mark}
 use Rattle.km_model.specs.Placement.{Allocation, LargeRun, is_slab_block, kmalloc_place, kmalloc_span, page_start}
 use Rattle.km_model.specs.Answers.{unless, at_place, is_bad_size}
 use Rattle.km_pages.specs.declared.errors.NoRoom.{NoRoom}
 use Rattle.km_pages.specs.declared.runs.Use.TheVariants.{Slab}
 use Rattle.km_pages.specs.declared.runs.Run.{Run}
-use Rattle.km_pages.specs.Runs.{run_from}
+use Rattle.km_pages.specs.Runs.{IsTaken, run_from}
 use Rattle.km_slab.specs.declared.errors.SlabFault.{SlabFault}
 use Rattle.km_slab.specs.declared.errors.SlabFault.TheVariants as fault
 
@@ -55,6 +55,36 @@ pub record Gains (sheets new : Sheets) (size a : ℕ) : Type 0 where
 pub record Loses (sheets new : Sheets) (a : ℕ) : Type 0 where
   pub still : (n b : ℕ) → IsSlot sheets n b → (b ≡ a → ⊥) → IsSlot new n b
   pub back : (n b : ℕ) → IsSlot new n b → IsSlot sheets n b × (b ≡ a → ⊥)
+
+-- a slot was taken of a page of its class, which has another live one
+pub record TakesOpen (sheets new : Sheets) (pages new_pages : List (Option Run)) (size page : ℕ) : Type 0 where
+  pub class : class_at sheets page ≡ Some size
+  pub other : (i : ℕ) × (size * (i + 1) ≤ 4096) × (is_live sheets page i ≡ true)
+  pub classes : new.classes ≡ sheets.classes
+  pub pages_stay : new_pages ≡ pages
+
+-- a slot was taken of a page that was free
+pub record TakesFree (sheets new : Sheets) (pages new_pages : List (Option Run)) (size page : ℕ) : Type 0 where
+  pub within : page < length sheets.classes
+  pub none : class_at sheets page ≡ None
+  pub dead : (i : ℕ) → i < 512 → is_live sheets page i ≡ false
+  pub classes : new.classes ≡ slice_set sheets.classes page (Some size)
+  pub taken : IsTaken pages new_pages Slab (page_start page) 1
+
+-- a slot of a page was taken, and nothing else happened
+pub record TakesSlot (sheets new : Sheets) (pages new_pages : List (Option Run)) (size page place : ℕ) : Type 0 where
+  pub marked : new.live ≡ with_mark sheets.live (512 * page + place)
+  pub there : TakesOpen sheets new pages new_pages size page ⊎ TakesFree sheets new pages new_pages size page
+
+-- the slot that begins here was taken, and nothing else happened
+pub record Takes (sheets new : Sheets) (pages new_pages : List (Option Run)) (size a : ℕ) : Type 0 where
+  pub page : ℕ
+  pub place : ℕ
+  pub class : class_at new page ≡ Some size
+  pub fits : size * (place + 1) ≤ 4096
+  pub start : a ≡ slot_start size page place
+  pub live : is_live new page place ≡ true
+  pub takes : TakesSlot sheets new pages new_pages size page place
 
 -- the slab blocks among the live allocations are the live slots of these pages
 pub record AreBlocks (sheets : Sheets) (used : List Allocation) : Type 0 where

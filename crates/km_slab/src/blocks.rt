@@ -8,7 +8,7 @@ ghost use Rattle.km_pages.specs.declared.runs.Use.TheVariants.{Large as large_us
 ghost use Rattle.km_pages.specs.Uses.{same_use};
 ghost use Rattle.km_pages.specs.Runs.{run_from};
 ghost use Rattle.km_pages.specs.Laid.{AreLaid};
-ghost use Rattle.km_slab.specs.Blocks.{AreBlocks, Fits, Gains, IsBlock, IsSlot, start_of};
+ghost use Rattle.km_slab.specs.Blocks.{AreBlocks, Fits, Gains, IsBlock, IsSlot, Takes, start_of};
 ghost use Rattle.km_slab.specs.Tables.{IsKept, sheets};
 
 use crate::classes::class_for;
@@ -33,6 +33,7 @@ pub fn take_block(table: &mut Table, pages: &mut Pages, size: u32) -> Result<Spa
     ensures span { IfOk result (λ s. s.size ≡ kmalloc_span size) }
     ensures apart { IfOk result (λ s. (used : List Allocation) → AreLaid pages.old used → AreBlocks (sheets table.old) used → All (λ (x : Allocation). (x.start + x.size ≤ s.start.0) ⊎ (s.start.0 + s.size ≤ x.start)) used) }
     ensures gains { IfOk result (λ s. nat_le size 4096 ≡ true → Gains (sheets table.old) (sheets table.new) s.size s.start.0) }
+    ensures takes { IfOk result (λ s. nat_le size 4096 ≡ true → Takes (sheets table.old) (sheets table.new) pages.old pages.new s.size s.start.0) }
     ensures large { nat_le size 4096 ≡ false → sheets table.new ≡ sheets table.old }
     ensures still { (n b : ℕ) → IsSlot (sheets table.old) n b → IsSlot (sheets table.new) n b }
     ensures refused { OnErr result (sheets table.new ≡ sheets table.old) }

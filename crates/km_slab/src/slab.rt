@@ -9,7 +9,7 @@ ghost use Rattle.km_pages.specs.declared.runs.Use.TheVariants.{Large as large_us
 ghost use Rattle.km_pages.specs.Uses.{same_use};
 ghost use Rattle.km_pages.specs.Runs.{run_from};
 ghost use Rattle.km_pages.specs.Laid.{AreLaid};
-ghost use Rattle.km_slab.specs.Blocks.{AreBlocks, Fits, Gains, IsBlock, IsSlot, Loses, answer_of, is_block_at, is_live, kmalloc_answer};
+ghost use Rattle.km_slab.specs.Blocks.{AreBlocks, Fits, Gains, IsBlock, IsSlot, Loses, Sheets, Takes, answer_of, is_block_at, is_live, kmalloc_answer};
 
 use crate::blocks::take_block;
 use crate::errors::SlabFault;
@@ -80,6 +80,7 @@ impl Slab {
         ensures span { IfOk result (λ s. s.size ≡ kmalloc_span size) }
         ensures apart { IfOk result (λ s. (used : List Allocation) → AreLaid pages.old used → AreBlocks self.old used → All (λ (x : Allocation). (x.start + x.size ≤ s.start.0) ⊎ (s.start.0 + s.size ≤ x.start)) used) }
         ensures gains { IfOk result (λ s. nat_le size 4096 ≡ true → Gains self.old self.new s.size s.start.0) }
+        ensures takes { IfOk result (λ s. nat_le size 4096 ≡ true → Takes self.old self.new pages.old pages.new s.size s.start.0) }
         ensures large { nat_le size 4096 ≡ false → self.new ≡ self.old }
         ensures still { (n b : ℕ) → IsSlot self.old n b → IsSlot self.new n b }
         ensures refused { OnErr result (self.new ≡ self.old) }
@@ -107,6 +108,7 @@ impl Slab {
         ensures start { IfOk result (λ s. s.start ≡ start) }
         ensures span { IfOk result (λ s. (used : List Allocation) → AreLaid pages.old used → AreBlocks self.old used → All (λ (x : Allocation). is_block_at start.0 x ≡ true → x.size ≡ s.size) used) }
         ensures live { (n : ℕ) → IsSlot self.old n start.0 → IfOk result (λ s. (s.size ≡ n) × Loses self.old self.new start.0) × (is_ok result ≡ true) }
+        ensures back { (before : Sheets) (held : List (Option Run)) (n : ℕ) → Takes before self.old held pages.old n start.0 → (self.new ≡ before) × (pages.new ≡ held) }
         ensures large { ((n : ℕ) → IsSlot self.old n start.0 → ⊥) → self.new ≡ self.old }
         ensures still { (n b : ℕ) → IsSlot self.old n b → (b ≡ start.0 → ⊥) → IsSlot self.new n b }
         ensures refused { OnErr result (self.new ≡ self.old) }

@@ -2,15 +2,15 @@
 
 ghost use Rattle.std.specs.Prelude.{◌≡◌, ◌+◌, ◌*◌, ◌/◌, ◌<◌, ◌≤◌, ◌^◌, ◌==◌, ◌||◌, ◌⊎◌, ℕ, List, ◌∷◌, [], ◌++◌, length, slice_index_or, slice_set, Option, Some, None, true, false, IfOk, OnErr, if◌then◌else◌};
 ghost use Rattle.std.specs.List.{All};
-ghost use Rattle.km_marks.specs.Sets.{has};
+ghost use Rattle.km_marks.specs.Sets.{has, with_mark};
 ghost use Rattle.km_model.specs.Placement.{Allocation, free_slot, is_slab_block, lowest_run, lowest_slab, page_start, run_place, slab_place, without_allocation};
 ghost use Rattle.km_pages.specs.declared.runs.Run.{Run};
 ghost use Rattle.km_pages.specs.declared.runs.Use as kinds;
 ghost use Rattle.km_pages.specs.declared.runs.Use.TheVariants.{Slab as slab_use};
 ghost use Rattle.km_pages.specs.Uses.{same_use};
-ghost use Rattle.km_pages.specs.Runs.{run_at, run_from};
+ghost use Rattle.km_pages.specs.Runs.{IsTaken, run_at, run_from};
 ghost use Rattle.km_pages.specs.Laid.{AreLaid, BeginAt};
-ghost use Rattle.km_slab.specs.Blocks.{AreBlocks, Fits, Gains, HasFree, IsFreeAt, IsFull, IsSize, IsSlot, Loses, start_of};
+ghost use Rattle.km_slab.specs.Blocks.{AreBlocks, Fits, Gains, HasFree, IsFreeAt, IsFull, IsSize, IsSlot, Loses, Sheets, Takes, TakesSlot, start_of};
 ghost use Rattle.km_slab.specs.Tables.{IsKept, sheets};
 
 use crate::table::{Table, drop_page, give_slot, lowest_slot, open_page, take_page, take_slot};
@@ -51,6 +51,7 @@ fn take_lowest(table: &mut Table, page: usize, class: u32) -> usize
     ensures slot { IsFreeAt (sheets table.old) class page result }
     ensures small { result < 512 }
     ensures live { (j : ℕ) → has table.new.live j ≡ (j == 512 * page + result || has table.old.live j) }
+    ensures marked { table.new.live ≡ with_mark table.old.live (512 * page + result) }
 {
     let slot = lowest_slot(table, page, class);
     take_slot(table, page, class, slot);
@@ -69,6 +70,7 @@ pub fn take_open(table: &mut Table, page: usize, class: u32) -> Span
     ensures place { (pages : List (Option Run)) (used : List Allocation) → Fits (sheets table.old) pages → AreLaid pages used → AreBlocks (sheets table.old) used → free_slot used class ≡ Some result.start.0 }
     ensures apart { (pages : List (Option Run)) (used : List Allocation) → Fits (sheets table.old) pages → AreLaid pages used → AreBlocks (sheets table.old) used → All (λ (x : Allocation). (x.start + x.size ≤ result.start.0) ⊎ (result.start.0 + result.size ≤ x.start)) used }
     ensures gains { Gains (sheets table.old) (sheets table.new) class result.start.0 }
+    ensures takes { (pages : List (Option Run)) → Fits (sheets table.old) pages → Takes (sheets table.old) (sheets table.new) pages pages class result.start.0 }
     ensures fits { (pages : List (Option Run)) → Fits (sheets table.old) pages → Fits (sheets table.new) pages }
     ensures laid { (pages : List (Option Run)) (used : List Allocation) (x : Allocation) → Fits (sheets table.old) pages → AreLaid pages used → is_slab_block x ≡ true → x.size ≡ class → x.start ≡ result.start.0 → AreLaid pages (used ++ x ∷ []) }
     ensures blocks { (used : List Allocation) (x : Allocation) → AreBlocks (sheets table.old) used → is_slab_block x ≡ true → x.size ≡ class → x.start ≡ result.start.0 → AreBlocks (sheets table.new) (used ++ x ∷ []) }
@@ -88,6 +90,7 @@ pub fn take_new(table: &mut Table, pages: &mut Pages, class: u32) -> Result<Span
     ensures lowest { IfOk result (λ s. (used : List Allocation) → AreLaid pages.old used → s.start.0 ≡ page_start (lowest_run used 1)) }
     ensures apart { IfOk result (λ s. (used : List Allocation) → AreLaid pages.old used → All (λ (x : Allocation). (x.start + x.size ≤ s.start.0) ⊎ (s.start.0 + s.size ≤ x.start)) used) }
     ensures gains { IfOk result (λ s. Gains (sheets table.old) (sheets table.new) class s.start.0) }
+    ensures takes { IfOk result (λ s. Takes (sheets table.old) (sheets table.new) pages.old pages.new class s.start.0) }
     ensures still { (n b : ℕ) → IsSlot (sheets table.old) n b → IsSlot (sheets table.new) n b }
     ensures refused { OnErr result (sheets table.new ≡ sheets table.old) }
     ensures pages_stay { OnErr result (pages.new ≡ pages.old) }
@@ -118,6 +121,7 @@ pub fn take_small(table: &mut Table, pages: &mut Pages, class: u32) -> Result<Sp
     ensures lowest { IfOk result (λ s. (used : List Allocation) → AreLaid pages.old used → AreBlocks (sheets table.old) used → s.start.0 ≡ lowest_slab used class) }
     ensures apart { IfOk result (λ s. (used : List Allocation) → AreLaid pages.old used → AreBlocks (sheets table.old) used → All (λ (x : Allocation). (x.start + x.size ≤ s.start.0) ⊎ (s.start.0 + s.size ≤ x.start)) used) }
     ensures gains { IfOk result (λ s. Gains (sheets table.old) (sheets table.new) class s.start.0) }
+    ensures takes { IfOk result (λ s. Takes (sheets table.old) (sheets table.new) pages.old pages.new class s.start.0) }
     ensures still { (n b : ℕ) → IsSlot (sheets table.old) n b → IsSlot (sheets table.new) n b }
     ensures refused { OnErr result (sheets table.new ≡ sheets table.old) }
     ensures pages_stay { OnErr result (pages.new ≡ pages.old) }
@@ -146,6 +150,7 @@ fn give_page(table: &mut Table, pages: &mut Pages, page: usize, class: u32)
     ensures pages_count { length pages.new ≡ length pages.old }
     ensures runs { (p : ℕ) → run_from pages.new slab_use p ≡ (if p == page then None else run_from pages.old slab_use p) }
     ensures others { (other : kinds.Use) (p : ℕ) → same_use slab_use other ≡ false → run_from pages.new other p ≡ run_from pages.old other p }
+    ensures back { (before : List (Option Run)) → IsTaken before pages.old slab_use (page_start page) 1 → pages.new ≡ before }
     ensures emptied { (used : List Allocation) (b : ℕ) → AreLaid pages.old used → BeginAt used 1 (page_start page) b → AreLaid pages.new (without_allocation used b) }
 {
     drop_page(table, page, class);
@@ -164,6 +169,7 @@ pub fn give_small(table: &mut Table, pages: &mut Pages, page: usize, class: u32,
     requires live { has table.old.live (512 * page + slot) ≡ true }
     ensures marks { IsKept table.new }
     ensures loses { Loses (sheets table.old) (sheets table.new) (page_start page + class * slot) }
+    ensures back { (before : Sheets) (held : List (Option Run)) → TakesSlot before (sheets table.old) held pages.old class page slot → (sheets table.new ≡ before) × (pages.new ≡ held) }
     ensures pages_count { length pages.new ≡ length pages.old }
     ensures others { (other : kinds.Use) (p : ℕ) → same_use slab_use other ≡ false → run_from pages.new other p ≡ run_from pages.old other p }
     ensures fits { Fits (sheets table.new) pages.new }

@@ -1,7 +1,7 @@
 //! The marks of slab pages.
 
-ghost use Rattle.std.specs.Prelude.{◌≡◌, ◌+◌, ◌*◌, ◌/◌, ◌^◌, ◌<◌, ◌≤◌, ◌==◌, ◌&&◌, ◌||◌, not, nat_le, nat_lt, ℕ, length, slice_index_or, slice_set, None, Some, true, false, IfSome};
-ghost use Rattle.km_marks.specs.Sets.{has};
+ghost use Rattle.std.specs.Prelude.{◌≡◌, ◌+◌, ◌*◌, ◌/◌, ◌^◌, ◌<◌, ◌≤◌, ◌==◌, ◌&&◌, ◌||◌, not, nat_le, nat_lt, ℕ, List, length, slice_index_or, slice_set, None, Some, true, false, IfSome};
+ghost use Rattle.km_marks.specs.Sets.{has, with_mark};
 ghost use Rattle.km_slab.specs.Blocks.{HasFree, IsFreeAt, IsFull, IsSize};
 ghost use Rattle.km_slab.specs.Tables.{IsKept, sheets};
 ghost use Rattle.km_model.specs.Placement.{page_start};
@@ -117,6 +117,7 @@ pub fn take_slot(table: &mut Table, page: usize, class: u32, slot: usize)
     ensures marks { IsKept table.new }
     ensures classes { table.new.classes.items ≡ table.old.classes.items }
     ensures live { (j : ℕ) → has table.new.live j ≡ (j == 512 * page + slot || has table.old.live j) }
+    ensures marked { table.new.live ≡ with_mark table.old.live (512 * page + slot) }
 {
     table.free.remove(SLOTS * page + slot);
     table.live.insert(SLOTS * page + slot);
@@ -142,6 +143,7 @@ pub fn give_slot(table: &mut Table, page: usize, class: u32, slot: usize)
     ensures marks { IsKept table.new }
     ensures classes { table.new.classes.items ≡ table.old.classes.items }
     ensures live { (j : ℕ) → has table.new.live j ≡ (not (j == 512 * page + slot) && has table.old.live j) }
+    ensures back { (before : List ℕ) → table.old.live ≡ with_mark before (512 * page + slot) → has table.old.live (512 * page + slot) ≡ true → table.new.live ≡ before }
 {
     table.live.remove(SLOTS * page + slot);
     table.free.insert(SLOTS * page + slot);

@@ -1,4 +1,4 @@
-use Rattle.std.proofs.Common.{◌≡◌, ℕ, ◌+◌, ◌<◌, ◌≤◌, Bool, true, false, List, [], ◌∷◌, ◌++◌, map, filter, cond, bytes_eq, slice_set, if◌then◌else◌, arith, subst, sym}
+use Rattle.std.proofs.Common.{◌≡◌, ℕ, ◌+◌, ◌≤◌, Bool, true, false, List, [], ◌∷◌, ◌++◌, filter, cond, bytes_eq, slice_set, if◌then◌else◌, arith}
 use Rattle.km_base.specs.declared.acts.Reg.{Reg}
 use Rattle.km_model.specs.Tasks.{Task, place_of, with_register}
 use Rattle.km_tasks.specs.Lives.{AreNumbered}

@@ -102,3 +102,11 @@ no_page pages a some none = let e : Some 1 ≡ None = sym some ∙ none in cc
 
 pub one_page : (pages : List (Option Run)) (a n : ℕ) → run_at pages Stack a ≡ Some 1 → run_at pages Stack a ≡ Some n → n ≡ 1
 one_page pages a n some other = let e : Some n ≡ Some 1 = sym other ∙ some in cc
+
+-- what others do
+pub fits_beside : (tasks : List Task) (pages new : List (Option Run)) → Fits tasks pages → ((p : ℕ) → run_from new Stack p ≡ run_from pages Stack p) → Fits tasks new
+fits_beside tasks pages new fits runs = record {
+  stacks = λ k d lt. let a = (get_or tasks k d).stack in
+      ap (λ o. if (get_or tasks k d).stack == page_start (page_of (get_or tasks k d).stack) then o else None) (runs (page_of a)) ∙ fits.stacks k d lt;
+  apart = fits.apart;
+}

@@ -1,7 +1,7 @@
 //! The task host.
 
 ghost use Rattle.std.specs.Prelude.{◌≡◌, ◌+◌, ◌*◌, ◌<◌, ◌≤◌, ◌^◌, ◌==◌, ℕ, List, ◌∷◌, [], ◌++◌, length, map, Some, None, IfOk, IfSome, OnErr, option_map, bytes_eq, true, false, is_some, is_ok, nat_lt, Option, vec_len, vec_capacity};
-ghost use Rattle.std.specs.List.{position};
+ghost use Rattle.std.specs.List.{All, position};
 ghost use Rattle.std.specs.Result.{result_ok};
 ghost use Rattle.km_model.specs.Placement.{Allocation, lowest_run, page_start, run_place, without_allocation};
 ghost use Rattle.km_model.specs.Tasks.{place_of, register, task_named, with_register, without_task};
@@ -9,8 +9,8 @@ ghost use Rattle.km_pages.specs.declared.runs.Run.{Run};
 ghost use Rattle.km_pages.specs.declared.runs.Use.{Use};
 ghost use Rattle.km_pages.specs.declared.runs.Use.TheVariants.{Stack};
 ghost use Rattle.km_pages.specs.Uses.{same_use};
-ghost use Rattle.km_pages.specs.Runs.{given, lowest_free, place, run_from, taken};
-ghost use Rattle.km_pages.specs.Laid.{AreLaid};
+ghost use Rattle.km_pages.specs.Runs.{given, lowest_free, place, run_at, run_from, taken};
+ghost use Rattle.km_pages.specs.Laid.{AreLaid, IsBeside};
 ghost use Rattle.km_tasks.specs.Roll.{Fits, answer_of, refused_first, stack_page, start_answer, task_after, with_task, with_value, without};
 ghost use Rattle.km_tasks.specs.Lives.{AreNamed, AreNumbered, task};
 
@@ -184,6 +184,7 @@ impl Tasks {
         ensures fits { Fits self.old.tasks pages.old → Fits self.new.tasks pages.new }
         ensures answer_among { (used : List Allocation) → AreLaid pages.old used → answer_of result ≡ start_answer self.old.tasks name (run_place (512 * length pages.old) used 1) }
         ensures started_among { IfOk result (λ _. (used : List Allocation) → AreLaid pages.old used → self.new ≡ with_task self.old name (page_start (lowest_run used 1))) }
+        ensures apart { IfOk result (λ _. (used : List Allocation) → AreLaid pages.old used → All (λ (x : Allocation). IsBeside x (stack_page (page_start (lowest_run used 1)))) used) }
         ensures laid { IfOk result (λ _. (used : List Allocation) → AreLaid pages.old used → AreLaid pages.new (used ++ stack_page (page_start (lowest_run used 1)) ∷ [])) }
     {
         if let Some(fault) = fault(&self.lives, name) {
@@ -213,6 +214,7 @@ impl Tasks {
         ensures pages_count { length pages.new ≡ length pages.old }
         ensures others { (other : Use) (p : ℕ) → same_use Stack other ≡ false → run_from pages.new other p ≡ run_from pages.old other p }
         ensures fits { Fits self.new.tasks pages.new }
+        ensures run { IfOk result (λ _. IfSome (task_named self.old.tasks name) (λ t. run_at pages.old Stack t.stack ≡ Some 1)) }
         ensures laid { IfOk result (λ _. (used : List Allocation) → AreLaid pages.old used → IfSome (task_named self.old.tasks name) (λ t. AreLaid pages.new (without_allocation used t.stack))) }
     {
         let Some(i) = place_named(&self.lives, name) else {

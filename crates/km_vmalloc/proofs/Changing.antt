@@ -5,6 +5,7 @@ use Rattle.std.proofs.lemmas.List.{get_or-set_same, get_or-set_other, length-set
 use Rattle.std.proofs.lemmas.List.Elements.{All-push}
 use Rattle.std.proofs.lemmas.List.Folds.{list_any-append}
 use Rattle.km_model.specs.Memory.{base}
+use Rattle.km_base.specs.declared.spans.Addr.{Addr}
 use Rattle.km_model.specs.Placement.{Allocation, HeadBlock, AreaRun, has_slot, page_of, page_start, pages_for, without_allocation}
 use Rattle.km_pages.specs.declared.runs.Run.{Run}
 use Rattle.km_pages.specs.declared.runs.Use.TheVariants.{Slab, Vmalloc}
@@ -19,7 +20,7 @@ use Rattle.km_slab.proofs.Places.{kind_found}
 use Rattle.km_slab.proofs.Slots.{page_of_slot}
 use Rattle.km_vmalloc.specs.declared.areas.VmArea.{VmArea}
 use Rattle.km_vmalloc.specs.Areas.{AreAreas, AreKept, Fits, IsPart, IsPlaced, IsRun, area_at, area_of, area_start, head_of, head_start, is_head, with_area, without_area}
-use Rattle.km_vmalloc.proofs.Live.{area_use, clash, head_use, one_area}
+use Rattle.km_vmalloc.proofs.Live.{area_use, clash, head_use, one_area, same_addr}
 
 -- a slot is taken or given back
 at_same : (areas : List (Option VmArea)) (s : ℕ) (o : Option VmArea) → s < length areas → area_at (slice_set areas s o) s ≡ o
@@ -279,11 +280,11 @@ areas_gone areas slab pages used v within live slab_fits fits a =
           let p = a.runs k d lt s (area_use (get_or used k d).«use» s t) in
           p.begins ∙ ap area_start (one_area (area_at areas s) p.area w p.live at)
 
--- where the head was given back all areas are as they were
-pub fits_back : (areas : List (Option VmArea)) (slab less : Sheets) (pages new : List (Option Run)) → ((n b : ℕ) → IsSlot slab n b → IsSlot less n b) → ((p : ℕ) → run_from new Vmalloc p ≡ run_from pages Vmalloc p)
-    → Fits areas slab pages → Fits areas less new
-fits_back areas slab less pages new still runs fits = record {
-  heads = λ s w h. still 64 w.head.start.0 (fits.heads s w h);
+-- areas that keep their heads and their runs still have them
+fits_kept : (areas : List (Option VmArea)) (slab less : Sheets) (pages new : List (Option Run)) → ((s : ℕ) (v : VmArea) → area_at areas s ≡ Some v → IsSlot less 64 v.head.start.0)
+    → ((p : ℕ) → run_from new Vmalloc p ≡ run_from pages Vmalloc p) → Fits areas slab pages → Fits areas less new
+fits_kept areas slab less pages new heads runs fits = record {
+  heads = heads;
   sizes = fits.sizes;
   runs = λ s w h. let r = fits.runs s w h in
       record { count = r.count; run = ap (λ o. if w.area.start.0 == page_start (page_of w.area.start.0) then o else None) (runs (page_of w.area.start.0)) ∙ r.run; size = r.size };
@@ -291,3 +292,12 @@ fits_back areas slab less pages new still runs fits = record {
   areas_differ = fits.areas_differ;
   only = λ p n h. fits.only p n (sym (runs p) ∙ h);
 }
+
+pub fits_back : (areas : List (Option VmArea)) (slab less : Sheets) (pages new : List (Option Run)) → Fits areas slab pages → ((n b : ℕ) → IsSlot slab n b → IsSlot less n b)
+    → ((p : ℕ) → run_from new Vmalloc p ≡ run_from pages Vmalloc p) → Fits areas less new
+fits_back areas slab less pages new fits still runs = fits_kept areas slab less pages new (λ s v h. still 64 v.head.start.0 (fits.heads s v h)) runs fits
+
+pub fits_freed : (areas : List (Option VmArea)) (slab less : Sheets) (pages new : List (Option Run)) (start : Addr) → Fits areas slab pages → ((s : ℕ) (v : VmArea) → area_at areas s ≡ Some v → v.head.start ≡ start → ⊥)
+    → ((n b : ℕ) → IsSlot slab n b → (b ≡ start.0 → ⊥) → IsSlot less n b) → ((p : ℕ) → run_from new Vmalloc p ≡ run_from pages Vmalloc p) → Fits areas less new
+fits_freed areas slab less pages new start fits none still runs =
+    fits_kept areas slab less pages new (λ s v h. still 64 v.head.start.0 (fits.heads s v h) (λ e. none s v h (same_addr v.head.start start e))) runs fits

@@ -52,7 +52,7 @@ head_use BootRun s e = absurd cc
 head_use (HeadBlock t) s e = ap HeadBlock (eqb-true t s e)
 head_use (AreaRun t) s e = absurd cc
 
-any_head : (u : Use) (q : Bool) → (elim u as (λ _. Bool) [ HeadBlock _ ↦ q | _ ↦ false ]) ≡ true → (s : ℕ) × (u ≡ HeadBlock s) × (q ≡ true)
+pub any_head : (u : Use) (q : Bool) → (elim u as (λ _. Bool) [ HeadBlock _ ↦ q | _ ↦ false ]) ≡ true → (s : ℕ) × (u ≡ HeadBlock s) × (q ≡ true)
 any_head SlotTable q e = absurd cc
 any_head (SectionRun n) q e = absurd cc
 any_head StackPage q e = absurd cc

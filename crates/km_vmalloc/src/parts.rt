@@ -1,15 +1,16 @@
 //! A head among the slab blocks, and a run of pages.
 
-ghost use Rattle.std.specs.Prelude.{◌≡◌, ◌+◌, ◌*◌, ◌<◌, ◌≤◌, ◌==◌, ◌⊎◌, ◌↔◌, ℕ, List, ◌∷◌, [], ◌++◌, length, Some, None, true, false, IfOk, OnErr, option_map, if◌then◌else◌};
+ghost use Rattle.std.specs.Prelude.{◌≡◌, ◌+◌, ◌*◌, ◌<◌, ◌≤◌, ◌==◌, ◌⊎◌, ◌↔◌, ℕ, List, ◌∷◌, [], ◌++◌, length, Option, Some, None, true, false, IfOk, OnErr, option_map, if◌then◌else◌};
 ghost use Rattle.std.specs.List.{All};
 ghost use Rattle.std.specs.Result.{result_ok};
 ghost use Rattle.km_model.specs.Placement.{Allocation, area_place, lowest_slab, next_head, page_of, pages_for, run_place, without_allocation};
+ghost use Rattle.km_pages.specs.declared.runs.Run.{Run};
 ghost use Rattle.km_pages.specs.declared.runs.Use as kinds;
 ghost use Rattle.km_pages.specs.declared.runs.Use.TheVariants.{Large as large_use, Slab as slab_use, Vmalloc as vmalloc_use};
 ghost use Rattle.km_pages.specs.Uses.{same_use};
 ghost use Rattle.km_pages.specs.Runs.{run_at, run_from};
 ghost use Rattle.km_pages.specs.Laid.{AreLaid, Fills};
-ghost use Rattle.km_slab.specs.Blocks.{AreBlocks, Fits as SlabFits, Gains, IsSlot, Loses};
+ghost use Rattle.km_slab.specs.Blocks.{AreBlocks, Fits as SlabFits, Gains, IsSlot, Loses, Sheets, Takes};
 ghost use Rattle.km_vmalloc.specs.Areas.{IsApart, IsPlaced, as_area};
 
 use km_base::{Addr, Span};
@@ -77,6 +78,7 @@ fn give_head(pages: &mut Pages, slab: &mut Slab, head: Addr)
     requires live { IsSlot slab.old 64 head.0 }
     ensures fits { SlabFits slab.new pages.new }
     ensures loses { Loses slab.old slab.new head.0 }
+    ensures back { (before : Sheets) (held : List (Option Run)) (n : ℕ) → Takes before slab.old held pages.old n head.0 → (slab.new ≡ before) × (pages.new ≡ held) }
     ensures pages_count { length pages.new ≡ length pages.old }
     ensures others { (other : kinds.Use) (p : ℕ) → same_use slab_use other ≡ false → run_from pages.new other p ≡ run_from pages.old other p }
     ensures laid { (used : List Allocation) → AreLaid pages.old used → AreBlocks slab.old used → AreLaid pages.new (without_allocation used head.0) }
@@ -95,10 +97,8 @@ pub fn take_parts(pages: &mut Pages, slab: &mut Slab, size: u64) -> Result<(Span
     requires fits { SlabFits slab.old pages.old }
     ensures place { (used : List Allocation) → AreLaid pages.old used → AreBlocks slab.old used → option_map (λ r. r.1.start.0) (result_ok result) ≡ area_place (512 * length pages.old) used size }
     ensures parts { IfOk result (λ r. IsPlaced pages.old slab.old pages.new slab.new size r.0 r.1) }
-    ensures slots_back { OnErr result ((n b : ℕ) → IsSlot slab.new n b ↔ IsSlot slab.old n b) }
-    ensures runs_back { OnErr result ((kind : kinds.Use) (p : ℕ) → run_from pages.new kind p ≡ run_from pages.old kind p) }
-    ensures laid_back { OnErr result ((used : List Allocation) → AreLaid pages.old used → AreBlocks slab.old used → AreLaid pages.new used) }
-    ensures blocks_back { OnErr result ((used : List Allocation) → AreLaid pages.old used → AreBlocks slab.old used → AreBlocks slab.new used) }
+    ensures slab_stays { OnErr result (slab.new ≡ slab.old) }
+    ensures pages_stay { OnErr result (pages.new ≡ pages.old) }
     ensures fits { SlabFits slab.new pages.new }
     ensures still { (n b : ℕ) → IsSlot slab.old n b → IsSlot slab.new n b }
     ensures pages_count { length pages.new ≡ length pages.old }

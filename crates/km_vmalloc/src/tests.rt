@@ -5,6 +5,7 @@ ghost use Rattle.km_vmalloc.specs.Areas.{Fits};
 
 use crate::areas::VmArea;
 use crate::errors::VmFault;
+use crate::laws::others_leave_parts;
 use crate::vmalloc::Vmalloc;
 use km_base::{Addr, Span};
 use km_pages::{NotAllocated, Pages, Use};
@@ -58,6 +59,7 @@ fn kmalloc(
     ensures slab_fits { SlabFits slab.new pages.new }
     ensures fits { Fits vmalloc.now slab.new pages.new }
 {
+    others_leave_parts();
     slab.kmalloc(pages, size)
 }
 

@@ -72,6 +72,8 @@ impl Vmalloc {
         ensures free { IfOk result (λ v. area_at self.old v.slot ≡ None) }
         ensures taken { IfOk result (λ v. self.new ≡ slice_set self.old v.slot (Some v)) }
         ensures refused { OnErr result (self.new ≡ self.old) }
+        ensures slab_stays { OnErr result (slab.new ≡ slab.old) }
+        ensures pages_stay { OnErr result (pages.new ≡ pages.old) }
         ensures slots_back { OnErr result ((n b : ℕ) → IsSlot slab.new n b ↔ IsSlot slab.old n b) }
         ensures runs_back { OnErr result ((kind : kinds.Use) (p : ℕ) → run_from pages.new kind p ≡ run_from pages.old kind p) }
         ensures laid_back { OnErr result ((used : List Allocation) → AreLaid pages.old used → AreBlocks slab.old used → AreLaid pages.new used) }

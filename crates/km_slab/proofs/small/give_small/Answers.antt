@@ -7,6 +7,7 @@ use Rattle.km_slab.specs.Tables.{sheets}
 use Rattle.km_slab.proofs.Rows.{place_small}
 use Rattle.km_slab.proofs.Changing.{slab_within}
 use Rattle.km_slab.proofs.Shrinking.{slot_shrunk, blocks_shrunk, fits_shrunk, laid_shrunk, page_shrunk, page_fits, alone, lost, other_live, same_sheets, slab_starts}
+use Rattle.km_slab.proofs.Undoing.{no_page_again, was_free, was_open}
 use Rattle.km_slab.proofs.small.give_small.Goals as goal
 
 pub give_slot-requires-clause-size : goal.give_slot-requires-clause-size
@@ -125,3 +126,18 @@ returns-in-None-clause-loses c =
     subst (λ s. Loses (sheets t) s (slot_start c.args.class c.args.page c.args.slot))
     (sym (same_sheets (sheets last) less (c.give_page.ensures.classes ∙ ap (λ xs. slice_set xs c.args.page None) c.give_slot.ensures.classes) c.give_page.ensures.live))
     (lost (sheets t) less c.args.class c.args.page c.args.slot (λ q cl a. (m.sizes q cl a).0) none)
+
+pub returns-in-Some-clause-back : goal.returns-in-Some-clause-back
+returns-in-Some-clause-back c = λ before held takes.
+    let live = c.give_slot.ensures.back before.live takes.marked c.requires.live in
+    let here = was_open before (sheets c.args.table.now) held c.args.pages.now c.args.class c.args.page c.args.slot c.in-Some.field-0 takes (let from = c.in-Some.ensures.from in omega (arith, from)) (let end = c.in-Some.ensures.before in omega (arith, end))
+    (ap (λ l. has l c.in-Some.field-0) (sym live) ∙ c.in-Some.ensures.here) in
+    (same_sheets (sheets c.give_slot.new.table) before (c.give_slot.ensures.classes ∙ here.classes) live, here.pages_stay)
+
+pub returns-in-None-clause-back : goal.returns-in-None-clause-back
+returns-in-None-clause-back c = λ before held takes.
+    let live = c.give_slot.ensures.back before.live takes.marked c.requires.live in
+    let free = was_free before (sheets c.args.table.now) held c.args.pages.now c.args.class c.args.page c.args.slot (c.requires.marks.sizes c.args.page c.args.class c.requires.class).0 takes
+    (λ n low high. ap (λ l. has l n) (sym live) ∙ c.in-None.ensures.none refl n (omega (arith, low)) (omega (arith, high))) in
+    let classes = c.give_page.ensures.classes ∙ ap (λ xs. slice_set xs c.args.page None) (c.give_slot.ensures.classes ∙ free.classes) ∙ no_page_again before.classes c.args.page c.args.class free.none in
+    (same_sheets (sheets c.give_page.new.table) before classes (c.give_page.ensures.live ∙ live), c.give_page.ensures.back held free.taken)

@@ -1,5 +1,7 @@
 use Rattle.std.specs.List.{All}
-use Rattle.std.proofs.Common.{arith, ◌<◌, ◌≤◌, ◌+◌, ◌⊎◌, Some, ◌++◌, ◌∷◌, [], refl, sym, ap, subst, ◌∙◌}
+use Rattle.std.proofs.Common.{arith, slice_index_or, ◌<◌, ◌≤◌, ◌+◌, ◌*◌, ◌||◌, ◌⊎◌, inl, Some, None, ◌++◌, ◌∷◌, [], refl, sym, ap, subst, ◌∙◌}
+use Rattle.std.proofs.lemmas.Bool.{eq-eqb}
+use Rattle.km_marks.specs.Sets.{has}
 use Rattle.km_slab.specs.Blocks.{AreBlocks, Fits, Gains, slot_start}
 use Rattle.km_slab.proofs.Places.{free_slot_found, slot_within, some_number}
 use Rattle.km_slab.proofs.Growing.{slot_grown, blocks_grown, laid_grown, fits_grown, fresh_slot, gained}
@@ -53,3 +55,20 @@ returns-clause-gains c =
     subst (Gains (sheets t) (sheets new) c.args.class) (sym c.span_of.ensures.start)
     (subst (λ xs. Gains (sheets t) (record { classes = xs; live = new.live }) c.args.class (slot_start c.args.class c.args.page c.take_lowest-slot.result)) (sym c.take_lowest-slot.ensures.classes)
     (gained (sheets t) (record { classes = t.classes.items; live = new.live }) c.args.class c.args.page c.take_lowest-slot.result (λ q cl at. (c.requires.marks.sizes q cl at).0) fresh g))
+
+pub returns-clause-takes : goal.returns-clause-takes
+returns-clause-takes c = λ pages fits.
+    let t = c.args.table.now in let s = c.requires.size.0 in
+    let slot = c.take_lowest-slot.ensures.slot in let place = c.take_lowest-slot.result in let number = 512 * c.args.page + c.take_lowest-slot.result in
+    record {
+      page = c.args.page;
+      place = place;
+      class = ap (λ xs. slice_index_or xs c.args.page None) c.take_lowest-slot.ensures.classes ∙ slot.0;
+      fits = slot_within c.args.class place (omega (arith, s)) slot.1;
+      start = c.span_of.ensures.start;
+      live = c.take_lowest-slot.ensures.live number ∙ ap (λ b. b || has t.live number) (eq-eqb number number refl);
+      takes = record {
+        marked = c.take_lowest-slot.ensures.marked;
+        there = inl (record { class = slot.0; other = fits.some c.args.page c.args.class slot.0; classes = c.take_lowest-slot.ensures.classes; pages_stay = refl });
+      };
+    }

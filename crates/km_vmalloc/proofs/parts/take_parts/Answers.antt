@@ -1,12 +1,10 @@
 use Rattle.std.proofs.Common.{◌*◌, ◌==◌, ◌++◌, ◌∷◌, [], length, Some, if◌then◌else◌, refl, sym, ap, subst, ◌∙◌}
 use Rattle.km_model.specs.Placement.{next_head, page_of, pages_for}
 use Rattle.km_pages.specs.declared.runs.Use.TheVariants.{Vmalloc}
-use Rattle.km_pages.specs.Runs.{run_from}
-use Rattle.km_pages.specs.Laid.{AreLaid}
-use Rattle.km_slab.specs.Blocks.{AreBlocks, Gains}
+use Rattle.km_slab.specs.Blocks.{Gains}
 use Rattle.km_slab.proofs.Owners.{blocks_more}
 use Rattle.km_vmalloc.specs.Areas.{as_head, as_area}
-use Rattle.km_vmalloc.proofs.Taking.{area_placed, head_block, next_block, same_at, none_begins, gone_again, slot_back, slot_still, runs_back}
+use Rattle.km_vmalloc.proofs.Taking.{area_placed, head_block, next_block, same_at}
 use Rattle.km_vmalloc.proofs.parts.take_parts.Goals as goal
 
 pub returns-in-Ok-take_run-clause-place : goal.returns-in-Ok-take_run-clause-place
@@ -38,37 +36,3 @@ returns-in-Err-clause-place c = λ used laid blocks.
     let a = c.in-Ok.head.start.0 in
     area_placed (512 * length c.args.pages.now) (512 * length c.kmalloc.new.pages) used c.args.size a _ (c.in-Ok.ensures.answer used laid blocks) (ap (λ n. 512 * n) c.in-Ok.ensures.pages_count)
     (c.in-Err.ensures.place (used ++ next_head used a ∷ []) (c.in-Ok.ensures.laid used (next_head used a) laid (next_block used a)))
-
-pub returns-in-Err-clause-slots_back : goal.returns-in-Err-clause-slots_back
-returns-in-Err-clause-slots_back c = λ n b.
-    let g = subst (λ n. Gains c.args.slab.now c.kmalloc.new.self n c.in-Ok.head.start.0) c.in-Ok.ensures.span (c.in-Ok.ensures.gains refl) in (
-      slot_back c.args.slab.now c.kmalloc.new.self c.give_head.new.slab c.in-Ok.head.start.0 n b g c.give_head.ensures.loses,
-      slot_still c.args.slab.now c.kmalloc.new.self c.give_head.new.slab c.in-Ok.head.start.0 n b g c.give_head.ensures.loses,
-    )
-
-pub returns-in-Err-clause-runs_back : goal.returns-in-Err-clause-runs_back
-returns-in-Err-clause-runs_back c = λ kind p.
-    let g = subst (λ n. Gains c.args.slab.now c.kmalloc.new.self n c.in-Ok.head.start.0) c.in-Ok.ensures.span (c.in-Ok.ensures.gains refl) in
-    runs_back c.args.slab.now c.give_head.new.slab c.args.pages.now c.give_head.new.pages kind p
-    (λ n b. slot_back c.args.slab.now c.kmalloc.new.self c.give_head.new.slab c.in-Ok.head.start.0 n b g c.give_head.ensures.loses)
-    (λ n b. slot_still c.args.slab.now c.kmalloc.new.self c.give_head.new.slab c.in-Ok.head.start.0 n b g c.give_head.ensures.loses)
-    c.requires.fits c.give_head.ensures.fits
-    (λ other. c.give_head.ensures.others kind p other ∙ ap (λ m. run_from m kind p) c.in-Err.ensures.pages_stay ∙ c.in-Ok.ensures.small refl kind p other)
-
-pub returns-in-Err-clause-laid_back : goal.returns-in-Err-clause-laid_back
-returns-in-Err-clause-laid_back c = λ used laid blocks.
-    let a = c.in-Ok.head.start.0 in let h = next_head used a in
-    let none = none_begins c.args.pages.now used c.in-Ok.head c.in-Ok.ensures.span laid (c.in-Ok.ensures.apart used laid blocks) in
-    subst (AreLaid c.give_head.new.pages) (gone_again used h a refl none)
-    (c.give_head.ensures.laid (used ++ h ∷ []) (subst (λ m. AreLaid m (used ++ h ∷ [])) (sym c.in-Err.ensures.pages_stay) (c.in-Ok.ensures.laid used h laid (next_block used a))) (c.in-Ok.ensures.blocks used h blocks (next_block used a)))
-
-pub returns-in-Err-clause-blocks_back : goal.returns-in-Err-clause-blocks_back
-returns-in-Err-clause-blocks_back c = λ used laid blocks.
-    let a = c.in-Ok.head.start.0 in let h = next_head used a in
-    let none = none_begins c.args.pages.now used c.in-Ok.head c.in-Ok.ensures.span laid (c.in-Ok.ensures.apart used laid blocks) in
-    subst (AreBlocks c.give_head.new.slab) (gone_again used h a refl none) (c.give_head.ensures.blocks (used ++ h ∷ []) (c.in-Ok.ensures.blocks used h blocks (next_block used a)))
-
-pub returns-in-Err-clause-still : goal.returns-in-Err-clause-still
-returns-in-Err-clause-still c = λ n b.
-    let g = subst (λ n. Gains c.args.slab.now c.kmalloc.new.self n c.in-Ok.head.start.0) c.in-Ok.ensures.span (c.in-Ok.ensures.gains refl) in
-    slot_still c.args.slab.now c.kmalloc.new.self c.give_head.new.slab c.in-Ok.head.start.0 n b g c.give_head.ensures.loses

@@ -1,7 +1,7 @@
-use Rattle.std.proofs.Common.{◌≡◌, ◌≤◌, ◌+◌, ◌*◌, ◌⊎◌, get_or, ◌==◌, Some, None, length, arith, option_map, if◌then◌else◌, refl, sym, ap, subst, ◌∙◌, ◌++◌, ◌∷◌, []}
+use Rattle.std.proofs.Common.{◌≡◌, ◌≤◌, ◌+◌, ◌*◌, ◌⊎◌, get_or, ◌==◌, Some, None, length, true, arith, option_map, if◌then◌else◌, refl, sym, ap, subst, ◌∙◌, ◌++◌, ◌∷◌, []}
 use Rattle.km_model.specs.Memory.{base}
 use Rattle.km_model.specs.Placement.{page_start, page_of}
-use Rattle.km_pages.specs.Runs.{first_fit, run_from, AreRuns, lowest_free, run_at}
+use Rattle.km_pages.specs.Runs.{IsTaken, are_free, with_run, first_fit, run_from, AreRuns, lowest_free, run_at}
 use Rattle.km_pages.specs.Laid.{AreLaid, Fills}
 use Rattle.km_pages.proofs.FirstFit.{fit}
 use Rattle.km_pages.proofs.Touching.{place_same, page_of_start, lowest_same}
@@ -74,3 +74,17 @@ returns-clause-apart c = λ used laid k d lt.
     let x = get_or used k d in
     subst (λ a. (x.start + x.size ≤ a) ⊎ (a + 4096 * c.args.n ≤ x.start)) (sym c.address.ensures)
     (apart_free c.self.inside.pages.items c.args.n c.in-Some.first x c.requires f.free ((subst (λ m. AreLaid m used) (sym c.self.view_is) laid).each k d lt))
+
+pub returns-clause-took : goal.returns-clause-took
+returns-clause-took c =
+    let f = fit c.self.inside.pages.items c.args.n c.in-Some.first (ap (λ m. first_fit m c.args.n) (sym c.deref.ensures.value) ∙ sym c.lowest_room.ensures ∙ c.in-Some.is) in
+    let page : page_of c.address.result.0 ≡ c.in-Some.first = ap page_of c.address.ensures ∙ page_of_start base c.in-Some.first in
+    let pages = c.self.inside.pages.items in
+    subst (λ m. IsTaken m c.hold.new.pages.items c.args.kind c.address.result.0 c.args.n) c.self.view_is
+    (record {
+      some = c.requires;
+      start = c.address.ensures ∙ ap page_start (sym page);
+      room = subst (λ p. p + c.args.n ≤ length pages) (sym page) f.room;
+      free = subst (λ p. are_free pages c.args.n p ≡ true) (sym page) f.free;
+      new_is = c.hold.ensures ∙ ap (λ p. with_run pages p c.args.n (Some (record { kind = c.args.kind; first = p; len = c.args.n }))) (sym page);
+    })

@@ -1,13 +1,14 @@
-use Rattle.std.proofs.Common.{◌≡◌, ℕ, ◌/◌, ◌<◌, ◌≤◌, List, Some, None, true, false, slice_index_or, refl, sym, subst, ◌∙◌, arith, ltb-true}
+use Rattle.std.proofs.Common.{◌≡◌, ℕ, ◌/◌, ◌<◌, ◌≤◌, List, Some, None, true, false, slice_index_or, refl, sym, ap, subst, ◌∙◌, arith, ltb-true}
 use Rattle.std.specs.List.{All, list_any}
 use Rattle.std.proofs.lemmas.Result.{IfOk-weaker}
 use Rattle.km_base.specs.declared.spans.Span.{Span}
 use Rattle.km_model.specs.Placement.{Allocation, without_allocation}
 use Rattle.km_pages.specs.Laid.{AreLaid}
-use Rattle.km_slab.specs.Blocks.{AreBlocks, Fits, IsSlot, Loses, Sheets, class_at, has_place, is_block_at, is_large_at, is_live, slot_start}
+use Rattle.km_slab.specs.Blocks.{AreBlocks, Fits, IsSlot, Loses, Sheets, Takes, class_at, has_place, is_block_at, is_large_at, is_live, slot_start}
 use Rattle.km_slab.specs.Tables.{sheets}
 use Rattle.km_slab.proofs.Places.{slot_within}
 use Rattle.km_slab.proofs.Owners.{blocks_left, no_slab_at, only_large, slot_found_at, slot_size, slot_is, slot_there, no_slot_there, large_at}
+use Rattle.km_slab.proofs.Undoing.{takes_there}
 use Rattle.km_slab.proofs.slab.Slab.kfree.Goals as goal
 
 pub returns-in_default-clause-answer : goal.returns-in_default-clause-answer
@@ -101,3 +102,19 @@ returns-in_default-clause-small c = λ n s.
 pub returns-clause-still : goal.returns-clause-still
 returns-clause-still c = λ n b s far.
     c.give_small.ensures.loses.still n b (subst (λ s. IsSlot s n b) (sym c.self.view_is) s) (λ e. far (e ∙ sym c.in-Some.ensures.start))
+
+pub returns-in_default-clause-back : goal.returns-in_default-clause-back
+returns-in_default-clause-back c = λ before held n takes.
+    absurd (no_slot_there (sheets c.self.inside.table) n c.args.start.0 (λ p class at. (c.self.invariant.sizes p class at).0) (c.in_default.ensures.none refl)
+    (subst (λ s. IsSlot s n c.args.start.0) (sym c.self.view_is) (record { page = takes.page; place = takes.place; class = takes.class; fits = takes.fits; start = takes.start; live = takes.live })))
+
+pub returns-clause-back : goal.returns-clause-back
+returns-clause-back c = λ before held n takes.
+    let t = c.self.inside.table in let p = c.in-Some.page in let class = c.in-Some.class in let i = c.in-Some.slot in
+    let size = (c.self.invariant.sizes p class c.in-Some.ensures.class).0 in
+    let some : 0 < c.in-Some.class = omega (arith, size) in
+    let within = ltb-true i (4096 / class) (subst (λ o. has_place o i ≡ true) c.in-Some.ensures.class (c.self.invariant.live_in p i c.in-Some.ensures.small c.in-Some.ensures.live)) in
+    c.give_small.ensures.back before held
+    (takes_there before (sheets t) held c.args.pages.now n class p i some (slot_within class i some within) c.in-Some.ensures.class
+    (subst (Takes before (sheets t) held c.args.pages.now n) c.in-Some.ensures.start (subst (λ s. Takes before s held c.args.pages.now n c.args.start.0) (sym c.self.view_is) takes))
+    (c.self.invariant.sizes takes.page n (ap (λ s. class_at s takes.page) c.self.view_is ∙ takes.class)).0)

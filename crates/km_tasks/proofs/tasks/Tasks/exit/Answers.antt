@@ -4,7 +4,8 @@ use Rattle.std.proofs.lemmas.List.{get_or-map}
 use Rattle.km_tasks.specs.declared.tasks.Live.{Live}
 use Rattle.km_model.specs.Placement.{without_allocation}
 use Rattle.km_model.specs.Tasks.{task_named}
-use Rattle.km_pages.specs.Runs.{given}
+use Rattle.km_pages.specs.Runs.{given, run_at}
+use Rattle.km_pages.specs.declared.runs.Use.TheVariants.{Stack}
 use Rattle.km_pages.specs.Laid.{AreLaid}
 use Rattle.km_tasks.specs.Lives.{task}
 use Rattle.km_tasks.specs.Roll.{Fits, Roll}
@@ -34,3 +35,9 @@ pub returns-clause-laid : goal.returns-clause-laid
 returns-clause-laid c = λ used laid.
     subst (λ o. IfSome o (λ t. AreLaid c.give.new.self (without_allocation used t.stack))) (sym (ap (λ (r : Roll). task_named r.tasks c.args.name) (sym c.self.view_is) ∙ named_there c.self.inside.lives.items c.args.name c.in-Some.i c.index.result.now (ap (position (λ (l : Live). bytes_eq l.name c.args.name)) (sym c.deref.ensures.value) ∙ sym c.in-Some.ensures.place) ∙ ap (λ l. Some (task l)) (sym c.index.ensures)))
     (c.in-Ok.ensures.laid used laid refl)
+
+pub returns-clause-run : goal.returns-clause-run
+returns-clause-run c =
+    let place = ap (position (λ (l : Live). bytes_eq l.name c.args.name)) (sym c.deref.ensures.value) ∙ sym c.in-Some.ensures.place in
+    subst (λ o. IfSome o (λ t. run_at c.args.pages.now Stack t.stack ≡ Some 1)) (sym (ap (λ (r : Roll). task_named r.tasks c.args.name) (sym c.self.view_is) ∙ named_there c.self.inside.lives.items c.args.name c.in-Some.i c.index.result.now place ∙ ap (λ l. Some (task l)) (sym c.index.ensures)))
+    (stack_run c.self.inside.lives.items c.in-Some.i c.index.result.now c.args.pages.now c.args.name place c.index.ensures (subst (λ (r : Roll). Fits r.tasks c.args.pages.now) (sym c.self.view_is) c.requires))

@@ -1,8 +1,10 @@
 use Rattle.std.proofs.Common.{◌≡◌, ◌+◌, map, refl, ap, sym, subst, ◌∙◌, arith}
 use Rattle.std.proofs.lemmas.List.{map-append}
 use Rattle.km_model.specs.Memory.{base}
-use Rattle.km_model.specs.Placement.{page_start, page_of, lowest_run}
+use Rattle.km_model.specs.Placement.{Allocation, page_start, page_of, lowest_run}
 use Rattle.km_model.specs.Tasks.{task_named}
+use Rattle.std.specs.List.{All}
+use Rattle.km_pages.specs.Laid.{IsBeside}
 use Rattle.km_pages.specs.Runs.{lowest_free}
 use Rattle.km_pages.proofs.Touching.{page_of_start}
 use Rattle.km_tasks.specs.Lives.{task, AreNamed, AreNumbered}
@@ -38,3 +40,7 @@ pub returns-clause-laid : goal.returns-clause-laid
 returns-clause-laid c = λ used laid.
     c.in-Ok.ensures.laid used (stack_page (page_start (lowest_run used 1))) laid
     (record { its_use = refl; start = sym (c.in-Ok.ensures.lowest_among used laid); long = omega arith; fits = omega arith; whole = λ e. refl })
+
+pub returns-clause-apart : goal.returns-clause-apart
+returns-clause-apart c = λ used laid.
+    subst (λ a. All (λ (x : Allocation). IsBeside x (stack_page a)) used) (c.in-Ok.ensures.lowest_among used laid) (c.in-Ok.ensures.apart used laid)

@@ -1,9 +1,8 @@
 use Rattle.std.proofs.Common.{◌≡◌, ℕ, ◌*◌, ◌<◌, List, Option, Some, None, length, refl, sym, subst, arith}
-use Rattle.km_pages.specs.declared.runs.Use.TheVariants.{Vmalloc}
 use Rattle.km_vmalloc.specs.declared.areas.VmArea.{VmArea}
 use Rattle.km_vmalloc.specs.Areas.{AreAreas, Fits, area_at}
 use Rattle.km_vmalloc.proofs.Live.{lowest_free, all_taken, good_size, no_slot_answer, placed_answer}
-use Rattle.km_vmalloc.proofs.Changing.{kept_added, fits_added, areas_added, fits_back}
+use Rattle.km_vmalloc.proofs.Changing.{kept_added, fits_added, areas_added}
 use Rattle.km_vmalloc.proofs.vmalloc.Vmalloc.take.Goals as goal
 
 pub returns-in_default-clause-answer : goal.returns-in_default-clause-answer
@@ -25,7 +24,8 @@ returns-in_default-take_parts-clause-answer c = λ used laid blocks a.
 
 pub returns-in_default-take_parts-clause-fits : goal.returns-in_default-take_parts-clause-fits
 returns-in_default-take_parts-clause-fits c =
-    fits_back c.args.self.now c.args.slab.now c.take_parts.new.slab c.args.pages.now c.take_parts.new.pages c.in_default-take_parts.ensures.still (c.in_default-take_parts.ensures.runs_back Vmalloc) c.requires.fits
+    subst (λ s. Fits c.args.self.now s c.take_parts.new.pages) (sym c.in_default-take_parts.ensures.slab_stays)
+    (subst (Fits c.args.self.now c.args.slab.now) (sym c.in_default-take_parts.ensures.pages_stay) c.requires.fits)
 
 pub invariant_of-self : goal.invariant_of-self
 invariant_of-self c =

@@ -1,0 +1,4 @@
+pub mod Agreeing
+pub mod Holding
+pub mod Blocks
+pub mod Opening
