@@ -1,4 +1,4 @@
-use Rattle.std.proofs.Common.{◌≡◌, ℕ, ◌+◌, ◌-◌, ◌*◌, ◌/◌, ◌<◌, Bool, true, false, ◌||◌, cond, List, [], ◌∷◌, drop, length, Option, Some, None, refl, sym, ap, ◌∙◌, subst, arith}
+use Rattle.std.proofs.Common.{◌≡◌, ℕ, ◌+◌, ◌-◌, ◌*◌, ◌/◌, Bool, true, false, ◌||◌, cond, List, [], ◌∷◌, drop, Option, Some, None, refl, sym, ap, ◌∙◌, subst, arith}
 use Rattle.std.specs.Prelude.{find, ◌==◌, if◌then◌else◌}
 use Rattle.std.specs.List.{list_any}
 use Rattle.std.proofs.lemmas.Bool.{eqb-true, eq-eqb}
@@ -71,16 +71,10 @@ pub record Taking (pass : Pass) (old now : Tracker) : Type 0 where
   pub same : first_in (phase_of pass) (blocks_in (tracked_in old)) now.queue ≡ first_in (phase_of pass) (blocks_in (tracked_in old)) old.queue
   pub rest : (n : ℕ) → is_in n now.queue ≡ true → behind n old.queue ≡ behind n now.queue
 
-pub take_begins : (pass : Pass) (old : Tracker) → Taking pass old old
-take_begins pass old = record { others = refl; same = refl; rest = λ n h. refl }
-
 -- the head of the queue
 head_is : (q : List ℕ) (n : ℕ) → Some n ≡ first_of q → q ≡ n ∷ drop 1 q
 head_is [] n e = absurd (let z : ⊥ = cc in z)
 head_is (m ∷ q) n e = let same : n ≡ m = cc in ap (λ k. k ∷ q) (sym same)
-
-pub take_shorter : (q : List ℕ) (n : ℕ) → Some n ≡ first_of q → length (drop 1 q) < length q
-take_shorter q n e = omega (arith, ap length (head_is q n e))
 
 first_cons : (t : Tracker) (pass : Pass) (id : RecId) (l : Live) (o : Option ℕ) (q : List ℕ) → AreRising 0 t.live t.registered → live_with id t ≡ Some l → o ≡ scanned_from (l.tracked.block.start + 8 * 0) l.tracked.block
     → first_in (phase_of pass) (blocks_in (tracked_in t)) (id.generation ∷ q) ≡ or_else (place_in (phase_of pass) id.generation o) (first_in (phase_of pass) (blocks_in (tracked_in t)) q)

@@ -4,3 +4,10 @@ pub mod Held
 pub mod Whites
 pub mod Ones
 pub mod SumsTold
+pub mod Referred
+pub mod Moves
+pub mod Kept
+pub mod Settles
+pub mod FitLaws
+pub mod InState
+pub mod NextWords

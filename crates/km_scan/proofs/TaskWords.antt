@@ -1,7 +1,7 @@
 use Rattle.std.proofs.Common.{◌≡◌, ℕ, zero, suc, ◌+◌, ◌-◌, ◌*◌, ◌<◌, ◌≤◌, ◌^◌, Bool, true, false, cond, ltb, List, [], ◌∷◌, filter, Option, Some, None, option_map, refl, sym, ap, ◌∙◌, subst, arith}
 use Rattle.std.specs.Prelude.{find, ◌==◌, if◌then◌else◌}
 use Rattle.std.specs.List.{All}
-use Rattle.std.proofs.lemmas.List.Elements.{All-nil, All-cons, All-head, All-tail, All-weaker}
+use Rattle.std.proofs.lemmas.List.Elements.{All-nil, All-cons, All-weaker}
 use Rattle.std.proofs.lemmas.Bool.{eqb-true, eqb-false, eq-eqb, ne_eqb, ltb-true, ltb-false, lt-ltb}
 use Rattle.km_model.specs.Tasks.{Task, stack_words}
 use Rattle.km_model.specs.Past.{Place}
@@ -9,7 +9,7 @@ use Rattle.km_model.specs.Scan.{first_stack, stack_of, word_above}
 use Rattle.km_tasks.specs.Lives.{AreNumbered}
 use Rattle.km_tasks.specs.Roll.{task_after}
 use Rattle.km_scan.specs.Stand.{IsStackWord, StackEnds}
-use Rattle.km_scan.proofs.Words.{next_word, no_word}
+use Rattle.km_scan.proofs.Words.{found_all, next_word, no_word}
 
 -- live tasks in order of their numbers
 
@@ -105,15 +105,6 @@ has_task tasks high n number start r e f same = its (task_after tasks (n - 1)) (
         let s : t.stack ≡ start = cc in
         record { it = t; found = g ∙ rw (eq-eqb t.number n (m ∙ same)) refl; stack = s }
 
--- what holds of all holds of it
-pub of_it : (tasks : List Task) (test : Task → Bool) (t : Task) (P : Task → Type 0) → find test tasks ≡ Some t → All P tasks → P t
-of_it [] test t P e all = absurd (let z : ⊥ = cc in z)
-of_it (u ∷ tasks) test t P e all =
-    elim (test u) as (λ b. cond b (Some u) (find test tasks) ≡ Some t → P t) [
-      | true ↦ λ f. let same : u ≡ t = cc in subst P same (All-head P u tasks all)
-      | false ↦ λ f. of_it tasks test t P f (All-tail P u tasks all)
-    ] e
-
 -- it alone has its number
 pub alone : (tasks : List Task) (low high n : ℕ) (t : Task) (P : Task → Type 0) → AreNumbered low tasks high → find (λ (u : Task). u.number == n) tasks ≡ Some t → P t → All (λ (u : Task). u.number ≡ n → P u) tasks
 alone [] low high n t P r e p = absurd (let z : ⊥ = cc in z)
@@ -152,24 +143,46 @@ same_find (u ∷ us) low high r test t g =
     elim (test u) as (λ b. cond b (Some u) (find test us) ≡ Some t → find (λ (v : Task). v.number == t.number) (u ∷ us) ≡ Some t) [
       | true ↦ λ f. let same : u ≡ t = cc in rw (eq-eqb u.number t.number (ap (λ (v : Task). v.number) same)) (ap (λ (v : Task). Some v) same)
       | false ↦ λ f.
-          let above = of_it us test t (λ (v : Task). u.number < v.number) f (all_above us u.number high r.1) in
+          let above = found_all (λ (v : Task). u.number < v.number) test us t (all_above us u.number high r.1) f in
           rw (ne_eqb u.number t.number (λ z. omega (arith, above, z))) (same_find us u.number high r.1 test t f)
     ] g
 
+-- numbers don't go past the greatest
+numbered_to : (tasks : List Task) (low high : ℕ) → AreNumbered low tasks high → low ≤ high
+numbered_to [] low high r = r
+numbered_to (t ∷ tasks) low high r = let above = r.0 in let rest = numbered_to tasks t.number high r.1 in omega (arith, above, rest)
+
+pub numbered_up_to : (tasks : List Task) (low high : ℕ) (test : Task → Bool) (t : Task) → AreNumbered low tasks high → find test tasks ≡ Some t → t.number ≤ high
+numbered_up_to [] low high test t r e = absurd (let z : ⊥ = cc in z)
+numbered_up_to (u ∷ tasks) low high test t r e =
+    elim (test u) as (λ b. cond b (Some u) (find test tasks) ≡ Some t → t.number ≤ high) [
+      | true ↦ λ f. let same : u ≡ t = cc in subst (λ (v : Task). v.number ≤ high) same (numbered_to tasks u.number high r.1)
+      | false ↦ λ f. numbered_up_to tasks u.number high test t r.1 f
+    ] e
+
 -- the first task above a number, by what the look-up tells of it
-pub record IsAfter (tasks : List Task) (n number start : ℕ) : Type 0 where
+pub record IsAfter (tasks : List Task) (high n number start : ℕ) : Type 0 where
   pub place : Some (record { phase = 1; holder = number; word = start }) ≡ first_stack (filter (λ (t : Task). ltb n t.number) tasks)
   pub words : All (IsStackWord number start) tasks
+  pub started : number ≤ high
   pub all : n ≡ 0 → Some (record { phase = 1; holder = number; word = start }) ≡ first_stack tasks
 
 pub is_after : (tasks : List Task) (high n number start : ℕ) → AreNumbered 0 tasks high → Some number ≡ option_map (λ (t : Task). t.number) (task_after tasks n)
-    → Some start ≡ option_map (λ (t : Task). t.stack) (task_after tasks n) → IsAfter tasks n number start
+    → Some start ≡ option_map (λ (t : Task). t.stack) (task_after tasks n) → IsAfter tasks high n number start
 is_after tasks high n number start r e f = record {
   place = there (task_after tasks n) e f ∙ sym (stack_after tasks n);
   words = on (task_after tasks n) refl e f;
+  started = up_to (task_after tasks n) refl e;
   all = λ z. there (task_after tasks n) e f ∙ subst (λ m. option_map place_at (task_after tasks m) ≡ first_stack tasks) (sym z) (sym (first_after tasks high r));
 }
   where
+    up_to : (o : Option Task) → task_after tasks n ≡ o → Some number ≡ option_map (λ (t : Task). t.number) o → number ≤ high
+    up_to None g e = absurd (let z : ⊥ = cc in z)
+    up_to (Some t) g e =
+        let m : number ≡ t.number = cc in
+        let most = numbered_up_to tasks 0 high (λ (u : Task). ltb n u.number) t r g in
+        omega (arith, m, most)
+
     there : (o : Option Task) → Some number ≡ option_map (λ (t : Task). t.number) o → Some start ≡ option_map (λ (t : Task). t.stack) o → Some (record { phase = 1; holder = number; word = start }) ≡ option_map place_at o
     there None e f = absurd (let z : ⊥ = cc in z)
     there (Some t) e f =
@@ -213,8 +226,8 @@ pub in_stack : (tasks : List Task) (high before n number start w : ℕ) → AreN
     → Some start ≡ option_map (λ (t : Task). t.stack) (task_after tasks before) → number ≡ n → All (IsStackWord n w) tasks → All StackEnds tasks → InStack tasks n start w
 in_stack tasks high before n number start w r b e f same words ends =
     let t = has_task tasks high n number start r (e ∙ ap (λ m. option_map (λ (t : Task). t.number) (task_after tasks m)) b) (f ∙ ap (λ m. option_map (λ (t : Task). t.stack) (task_after tasks m)) b) same in
-    let word = of_it tasks (λ (u : Task). u.number == n) t.it (IsStackWord n w) t.found words (its_number tasks n t.it t.found) in
-    let last = of_it tasks (λ (u : Task). u.number == n) t.it StackEnds t.found ends in
+    let word = found_all (IsStackWord n w) (λ (u : Task). u.number == n) tasks t.it words t.found (its_number tasks n t.it t.found) in
+    let last = found_all StackEnds (λ (u : Task). u.number == n) tasks t.it ends t.found in
     let s = t.stack in
     record { it = t.it; found = t.found; stack = s; place = word.0; within = word.1; is = (let is = word.2 in omega (arith, is, s)); end = omega (arith, last, s) }
 
@@ -237,3 +250,9 @@ next_in_stack tasks high n start w s r lt =
     let is = s.is in
     let same = s.stack in
     alone tasks 0 high n s.it (λ (u : Task). (i : ℕ) × (i < 512) × (w + 8 ≡ u.stack + 8 * i)) r s.found (s.place + 1, omega (arith, is, lt), omega (arith, is, same))
+
+pub started_stack : (tasks : List Task) (high n start w : ℕ) (s : InStack tasks n start w) → AreNumbered 0 tasks high → n ≤ high
+started_stack tasks high n start w s r =
+    let most = numbered_up_to tasks 0 high (λ (t : Task). t.number == n) s.it r s.found in
+    let number = its_number tasks n s.it s.found in
+    omega (arith, most, number)

@@ -1,5 +1,5 @@
 use Rattle.std.proofs.Common.{◌≡◌, ℕ, ◌+◌, ◌-◌, ◌/◌, ◌%◌, ◌<◌, ◌≤◌, Bool, true, false, ◌||◌, cond, ltb, List, [], ◌∷◌, ◌++◌, map, filter, length, Option, Some, None, option_map, refl, sym, ap, ◌∙◌, subst, arith}
-use Rattle.std.specs.Prelude.{find, ◌==◌, if◌then◌else◌, IfSome}
+use Rattle.std.specs.Prelude.{find, if◌then◌else◌, IfSome}
 use Rattle.std.specs.List.{list_any}
 use Rattle.std.proofs.lemmas.List.{append_assoc}
 use Rattle.std.proofs.lemmas.Bool.{lt-ltb, le-ltb}
@@ -11,14 +11,7 @@ use Rattle.km_state.specs.State.{Tracked, is_white_now}
 use Rattle.km_state.specs.StateNext.{first_white_in, white_behind, white_words_in}
 use Rattle.km_track.specs.Tracker.{AreRising, Live, NeverMeet, Tracker, first_live, id_of, is_id, live_behind, live_from, live_with, tracked_in}
 use Rattle.km_track.proofs.Lives.{finds_it, found_its, found_tracked, behind_it, from_rest, is_its, rising_rest}
-use Rattle.km_base.specs.declared.spans.Addr.{Addr}
-use Rattle.km_state.specs.State as state
-use Rattle.km_scan.specs.declared.places.At.TheVariants.{Stack, Block as InBlock}
-use Rattle.km_scan.specs.declared.places.Pass.TheVariants.{First, Sums, Second}
-use Rattle.km_scan.specs.declared.places.Cursor.{Cursor}
-use Rattle.km_scan.specs.declared.places.Cursor.TheVariants.{Start, Last, Behind}
-use Rattle.km_scan.specs.Places.{cursor_of}
-use Rattle.km_scan.specs.Stand.{IsWordOf, white_next_in}
+use Rattle.km_scan.specs.Stand.{IsWordOf}
 use Rattle.km_scan.proofs.Words.{next_word, no_word}
 use Rattle.km_scan.proofs.Held.{found_any}
 
@@ -240,32 +233,6 @@ tracked_above gen (l ∷ ls) =
 
 pub white_rest : (gen : ℕ) (live rest : List Live) → rest ≡ filter (λ (l : Live). ltb gen l.tracked.block.id) live → first_white_in (map (λ (l : Live). l.tracked) rest) ≡ white_behind gen (map (λ (l : Live). l.tracked) live)
 white_rest gen live rest e = ap (λ ls. first_white_in (map (λ (l : Live). l.tracked) ls)) e ∙ ap first_white_in (tracked_above gen live)
-
-pub none_white : (cursor : state.Cursor) → white_next_in [] cursor ≡ None
-none_white state.Start = refl
-none_white (state.Last p) = elim (p.phase == 3) as (λ b. (if b then white_behind p.holder [] else first_white_in []) ≡ None) [ true ↦ refl | false ↦ refl ]
-none_white (state.Behind phase id) = elim (phase == 3) as (λ b. (if b then white_behind id [] else first_white_in []) ≡ None) [ true ↦ refl | false ↦ refl ]
-
-pub no_live : (live : List Live) → None ≡ option_map id_of (first_live live) → live ≡ []
-no_live [] e = refl
-no_live (l ∷ live) e = absurd (let z : ⊥ = cc in z)
-
-pub from_first : (live : List Live) (high : ℕ) (first : RecId) → AreRising 0 live high → Some first ≡ option_map id_of (first_live live) → (list_any (is_id first) live ≡ true) × (live_from (Some first) live ≡ live)
-from_first live high first r e = (
-  walk_live live high (Some first) (record { front = []; rest = live; was = refl; at = e }) r,
-  ap (λ (n : Option RecId). live_from n live) e ∙ from_rest 0 high [] live r,
-)
-
--- another cursor than one of the sums
-pub not_sums : (ts : List Tracked) (cursor : Cursor) → ((id : RecId) (word : Addr) → cursor ≡ Last (InBlock Sums id word) → ⊥) → ((gen : ℕ) → cursor ≡ Behind Sums gen → ⊥) → first_white_in ts ≡ white_next_in ts (cursor_of cursor)
-not_sums ts Start a b = refl
-not_sums ts (Last (Stack task word)) a b = refl
-not_sums ts (Last (InBlock First id word)) a b = refl
-not_sums ts (Last (InBlock Sums id word)) a b = absurd (a id word refl)
-not_sums ts (Last (InBlock Second id word)) a b = refl
-not_sums ts (Behind First gen) a b = refl
-not_sums ts (Behind Sums gen) a b = absurd (b gen refl)
-not_sums ts (Behind Second gen) a b = refl
 
 -- the words of a live block, where that is white
 pub white_words : (t : Tracker) (id : RecId) (l : Live) (b : Bool) → AreRising 0 t.live t.registered → live_with id t ≡ Some l → is_white_now l.tracked ≡ b

@@ -1,5 +1,7 @@
-use Rattle.std.proofs.Common.{◌≡◌, ℕ, zero, suc, ◌+◌, ◌*◌, ◌<◌, ◌≤◌, Bool, true, false, cond, ltb, leb, ◌∷◌, filter, Some, None, refl, ap, ◌∙◌, arith}
+use Rattle.std.proofs.Common.{◌≡◌, List, [], ◌∷◌, ℕ, zero, suc, ◌+◌, ◌*◌, ◌<◌, ◌≤◌, Bool, true, false, cond, ltb, leb, filter, Some, None, refl, ap, ◌∙◌, arith, subst}
 use Rattle.std.specs.Prelude.{find}
+use Rattle.std.specs.List.{All}
+use Rattle.std.proofs.lemmas.List.Elements.{All-head, All-tail}
 use Rattle.std.proofs.lemmas.Bool.{ltb-true, ltb-false, lt-ltb, le-ltb, le-leb, lt-leb}
 use Rattle.km_model.specs.Memory.{words_from}
 use Rattle.km_model.specs.Scan.{first_word, word_above}
@@ -59,3 +61,12 @@ no_word (suc n) s w zero e le = rw (le-ltb w s (omega (arith, e))) (none n (s + 
     none zero s w le = refl
     none (suc n) s w le = absurd (omega (arith, le))
 no_word (suc n) s w (suc i) e le = rw (le-ltb w s (omega (arith, e))) (no_word n (s + 8) w i (omega (arith, e)) (omega (arith, le)))
+
+-- what holds of all holds of the one that is found
+pub found_all : {A : Type 0} (P : A → Type 0) (test : A → Bool) (ls : List A) (l : A) → All P ls → find test ls ≡ Some l → P l
+found_all P test [] l all e = absurd (let z : ⊥ = cc in z)
+found_all P test (x ∷ ls) l all e =
+    elim (test x) as (λ b. cond b (Some x) (find test ls) ≡ Some l → P l) [
+      | true ↦ λ f. let same : x ≡ l = cc in subst P same (All-head P x ls all)
+      | false ↦ λ f. found_all P test ls l (All-tail P x ls all) f
+    ] e

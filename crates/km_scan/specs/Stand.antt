@@ -1,5 +1,5 @@
 -- What a scanner is seen as, and how it agrees with a tracker and tasks.
-use Rattle.std.specs.Prelude.{◌≡◌, ℕ, ◌+◌, ◌*◌, ◌/◌, ◌^◌, ◌<◌, Bool, true, false, nat_lt, ◌==◌, List, map, filter, Option, Some, None, if◌then◌else◌}
+use Rattle.std.specs.Prelude.{◌≡◌, ℕ, ◌+◌, ◌*◌, ◌/◌, ◌^◌, ◌<◌, ◌≤◌, Bool, true, false, nat_lt, ◌==◌, List, map, filter, Option, Some, None, if◌then◌else◌}
 use Rattle.std.specs.List.{All}
 use Rattle.km_record.specs.declared.kinds.RecId.{RecId}
 use Rattle.km_links.specs.Chains.{is_in}
@@ -8,8 +8,8 @@ use Rattle.km_model.specs.Tasks.{Task}
 use Rattle.km_model.specs.Past.{Place, ScanLoad}
 use Rattle.km_model.specs.Scan.{place_in, word_above, live_words, stack_of, first_stack}
 use Rattle.km_state.specs.State as state
-use Rattle.km_state.specs.State.{State, Scanning, Tracked, blocks_in, opened, is_white_now}
-use Rattle.km_state.specs.StateNext.{told, white_words_in, with_last, first_white_in, white_behind, ripe_by, load_at, sum_after}
+use Rattle.km_state.specs.State.{State, Scanning, Tracked, blocks_in, opened, is_white_now, tracked_where}
+use Rattle.km_state.specs.StateNext.{told, hit_white_in, white_words_in, with_last, first_white_in, white_behind, ripe_by, load_at, sum_after}
 use Rattle.km_tasks.specs.Roll.{Roll}
 use Rattle.km_track.specs.Tracker.{Live, Tracker, live_from, live_with, tracked_in, counted}
 use Rattle.km_scan.specs.declared.places.At.{At}
@@ -19,6 +19,8 @@ use Rattle.km_scan.specs.declared.places.Pass.TheVariants.{Sums}
 use Rattle.km_scan.specs.declared.places.Cursor.{Cursor}
 use Rattle.km_scan.specs.declared.places.Cursor.TheVariants.{Start, Last, Behind}
 use Rattle.km_scan.specs.declared.sweep.Sweep.{Sweep}
+use Rattle.km_scan.specs.declared.scanner.Want.{Want}
+use Rattle.km_scan.specs.declared.scanner.Want.TheVariants.{Load as LoadWord, Move}
 use Rattle.km_scan.specs.Places.{place_of, cursor_of}
 
 -- what a scanner is seen as: how many scans it began, when the last one began and whether that scans stacks,
@@ -64,6 +66,14 @@ told_in l sum t = record t {
 abbrev pub IsWordOf : Block → ℕ → Type 0
 IsWordOf b a = (i : ℕ) × (i < b.size / 8) × (a ≡ b.start + 8 * i)
 
+-- each word of a block, which has one, passes a test
+abbrev pub EachWordPasses : (ℕ → Bool) → Block → Type 0
+EachWordPasses test b = (8 ≤ b.size) × ((a : ℕ) → IsWordOf b a → test a ≡ true)
+
+-- and so does each word of the stack of a task
+abbrev pub EachStackWordPasses : (ℕ → Bool) → Task → Type 0
+EachStackWordPasses test t = (i : ℕ) → i < 512 → test (t.stack + 8 * i) ≡ true
+
 -- what a place in a pass asks of its block: a holder of a grey pass isn't white, and no longer queued
 abbrev pub IsHeldIn : Pass → Live → Tracker → Type 0
 IsHeldIn Sums l t = Unit {0}
@@ -77,10 +87,10 @@ IsStackWord task a u = u.number ≡ task → (i : ℕ) × (i < 512) × (a ≡ u.
 abbrev pub StackEnds : Task → Type 0
 StackEnds u = u.stack + 4096 < 2 ^ 64
 
--- a place agrees with what is live: a block is there, and the place is one of its words; a stack is scanned, and where
--- its task lives, the place is one of its words
+-- a place agrees with what is live: a block is there, and the place is one of its words; a stack is scanned, its task
+-- was started, and where that lives, the place is one of its words
 abbrev pub FitsAt : Bool → At → Tracker → Roll → Type 0
-FitsAt stacks (Stack task word) t roll = (stacks ≡ true) × All (IsStackWord task word.0) roll.tasks
+FitsAt stacks (Stack task word) t roll = (stacks ≡ true) × (task ≤ roll.started) × All (IsStackWord task word.0) roll.tasks
 FitsAt stacks (InBlock pass id word) t roll =
     (l : Live) × (live_with id t ≡ Some l) × IsWordOf l.tracked.block word.0 × IsHeldIn pass l t
 
@@ -107,6 +117,16 @@ pub record FitsSweep (stacks : Bool) (w : Sweep) (t : Tracker) (roll : Roll) : T
 abbrev pub Fits : Stand → Tracker → Roll → Type 0
 Fits s t roll = (w : Sweep) → s.sweep ≡ Some w → FitsSweep s.stacks w t roll
 
+-- the scanner hasn't moved on since its last load
+abbrev pub IsSettled : Stand → Type 0
+IsSettled s = (w : Sweep) → s.sweep ≡ Some w → w.ready ≡ None
+
+-- a change leaves each block where it is, and makes none white
+abbrev pub KeepsPlaces : (Tracked → Tracked) → Type 0
+KeepsPlaces change =
+    (u : Tracked) → ((change u).block.id ≡ u.block.id) × ((change u).block.start ≡ u.block.start) × ((change u).block.size ≡ u.block.size)
+    × (is_white_now u ≡ false → is_white_now (change u) ≡ false)
+
 -- the blocks from this one on, without their slots
 abbrev pub tracked_from : Option RecId → Tracker → List Tracked
 tracked_from from t = map (λ (l : Live). l.tracked) (live_from from t.live)
@@ -125,6 +145,15 @@ stack_start_in tasks _ = first_stack tasks
 -- the block whose references to itself don't count
 abbrev pub holder_of : Place → Option ℕ
 holder_of p = if nat_lt 1 p.phase then Some p.holder else None
+
+-- the white block, if one begins at the excess of another, to which the references to that are passed on
+abbrev pub hit_found : Place → Option Tracked → Option ℕ
+hit_found place None = None
+hit_found place (Some t) = hit_white_in place t
+
+abbrev pub hit_at : List Tracked → Place → Option ℕ → Option ℕ
+hit_at ts place None = None
+hit_at ts place (Some a) = hit_found place (tracked_where (λ (b : Block). b.start == a) ts)
 
 -- a block is hit: its count rises, and where it then has as many as it needs, it is queued
 abbrev pub hit_told : Option ℕ → Tracker → Tracker
@@ -167,3 +196,8 @@ sweep_without id w = record { cursor = cursor_without id w.cursor; ready = ready
 -- the number of the running scan
 abbrev pub running_in : Stand → Option ℕ
 running_in s = elim s.sweep [ None ↦ None | Some _ ↦ Some s.scans ]
+
+-- what a scanner wants, by the load that is due
+abbrev pub want_of : Option Place → Want
+want_of None = Move
+want_of (Some p) = LoadWord (record { 0 = p.word })

@@ -2,6 +2,8 @@
 #![tactic(auto)]
 
 mod grey;
+mod hits;
+pub mod laws;
 pub mod places;
 pub mod scanner;
 mod stacks;
@@ -9,4 +11,7 @@ mod sums;
 pub mod sweep;
 
 pub use places::{At, Cursor, Pass};
-pub use scanner::Scanner;
+pub use scanner::{Scanner, Want};
+
+#[cfg(test)]
+mod tests;

@@ -1,11 +1,9 @@
-use Rattle.std.proofs.Common.{Option, refl, sym, ap, ◌∙◌, subst, arith}
-use Rattle.std.specs.Prelude.{IfSome, option_map, true}
+use Rattle.std.proofs.Common.{refl, sym, ap, ◌∙◌, arith}
+use Rattle.std.specs.Prelude.{option_map, true}
 use Rattle.km_model.specs.Scan.{place_in, word_above}
 use Rattle.km_scan.specs.Places.{place_of}
-use Rattle.km_scan.specs.Stand.{FitsAt}
-use Rattle.km_scan.specs.declared.places.At.{At}
-use Rattle.km_track.specs.Tracker.{Tracker}
-use Rattle.km_scan.proofs.TaskWords.{none_after, has_none, has_other, in_stack, last_in_stack, more_in_stack, next_in_stack}
+use Rattle.km_scan.proofs.Held.{due_none}
+use Rattle.km_scan.proofs.TaskWords.{none_after, has_none, has_other, in_stack, last_in_stack, more_in_stack, next_in_stack, started_stack}
 use Rattle.km_scan.proofs.stacks.word_behind.Goals as goal
 use Rattle.km_scan.proofs.stacks.word_behind.Goals.{then-number-task-via-then-number-task, then-number-task-via-else-number-task+then-word-stack-ge-TO_LAST}
 
@@ -18,7 +16,7 @@ returns-in_err-number c =
       place =
           ap (option_map place_of) c.from_residual.ensures
           ∙ sym (ap (λ ws. place_in 1 c.args.task (word_above c.args.word.0 ws)) (has_none tasks c.args.tasks.now.started c.args.task c.saturating_sub.result e.numbers c.saturating_sub.ensures none.2));
-      fits = subst (λ (o : Option At). IfSome o (λ at. (t : Tracker) → FitsAt true at t c.args.tasks.now)) (sym c.from_residual.ensures) tt;
+      fits = λ t. due_none true c.from_residual.result t c.args.tasks.now c.from_residual.ensures;
     }
 
 pub overflow_sub-word : goal.overflow_sub-word
@@ -35,13 +33,13 @@ returns-then-number-task c =
     elim c.then-number-task.branch [
       | then-number-task-via-then-number-task w ↦ record {
         place = sym (ap (λ ws. place_in 1 c.args.task (word_above c.args.word.0 ws)) (has_other tasks c.args.tasks.now.started c.args.task c.saturating_sub.result c.in_ok-number.number e.numbers c.saturating_sub.ensures e.number w.if-number-task.true));
-        fits = tt;
+        fits = λ t. tt;
       }
       | then-number-task-via-else-number-task+then-word-stack-ge-TO_LAST w ↦
           let s = in_stack tasks c.args.tasks.now.started c.saturating_sub.result c.args.task c.in_ok-number.number c.in_ok-number.stack.start.0 c.args.word.0 e.numbers c.saturating_sub.ensures e.number e.stack w.if-number-task.false c.requires.word c.requires.end in
           record {
             place = sym (ap (place_in 1 c.args.task) (last_in_stack tasks c.args.task c.in_ok-number.stack.start.0 c.args.word.0 s w.if-word-stack-ge-TO_LAST.true));
-            fits = tt;
+            fits = λ t. tt;
           }
     ]
 
@@ -61,5 +59,5 @@ returns c =
     let s = in_stack tasks c.args.tasks.now.started c.saturating_sub.result c.args.task c.in_ok-number.number c.in_ok-number.stack.start.0 c.args.word.0 e.numbers c.saturating_sub.ensures e.number e.stack c.if-number-task.false c.requires.word c.requires.end in
     record {
       place = sym (ap (place_in 1 c.args.task) (more_in_stack tasks c.args.task c.in_ok-number.stack.start.0 c.args.word.0 s c.if-word-stack-ge-TO_LAST.false));
-      fits = λ t. (refl, next_in_stack tasks c.args.tasks.now.started c.args.task c.in_ok-number.stack.start.0 c.args.word.0 s e.numbers c.if-word-stack-ge-TO_LAST.false);
+      fits = λ t. (refl, started_stack tasks c.args.tasks.now.started c.args.task c.in_ok-number.stack.start.0 c.args.word.0 s e.numbers, next_in_stack tasks c.args.tasks.now.started c.args.task c.in_ok-number.stack.start.0 c.args.word.0 s e.numbers c.if-word-stack-ge-TO_LAST.false);
     }

@@ -1,0 +1,2 @@
+pub mod LeftIn
+pub mod Laws
