@@ -1,8 +1,8 @@
-//! Reads each line of a generated script of 1,000,000 steps, ten times over, and prints how many lines are commands.
-//! `tools/bench.sh` times it.
+//! Reads each line of a generated script of 1,000,000 steps, twenty times over, and prints how many lines are commands.
+//! `bench/layers.sh` times it.
 #![tactic(auto)]
 
-use km_edge::{Cut, Lines, MemSource};
+use km_edge::{Cut, Lines, StdSource};
 use km_gen::script_of;
 use km_script::{Line, read_line};
 use std::io;
@@ -11,10 +11,11 @@ use std::io;
 const STEPS: u32 = 1_000_000;
 
 /// How often the script is read.
-const TIMES: u32 = 10;
+const TIMES: u32 = 20;
 
-/// The lines of a source that are commands.
-fn count(mut source: MemSource) -> u64 {
+/// The lines of a script that are commands.
+fn count(script: &[u8]) -> u64 {
+    let mut source = StdSource::new(script);
     let mut lines = Lines::new();
     let mut commands: u64 = 0;
     for _ in 0..u32::MAX {
@@ -44,13 +45,12 @@ fn count(mut source: MemSource) -> u64 {
 }
 
 fn main(rt: HostRuntime) -> io::Result<()> {
+    let Ok(script) = script_of(rt.alloc(), 1, STEPS) else {
+        return Ok(());
+    };
     let mut commands: u64 = 0;
     for _ in 0..TIMES {
-        let Ok(script) = script_of(rt.alloc(), 1, STEPS) else {
-            return Ok(());
-        };
-        let source = MemSource::new(script, 65536, Vec::new(rt.alloc()));
-        commands = commands.saturating_add(count(source));
+        commands = commands.saturating_add(count(&script));
     }
     println!(rt; "{commands} commands")
 }

@@ -1,1 +1,3 @@
-pub mod Small
+pub mod Parts
+pub mod Kernels
+pub mod Cores

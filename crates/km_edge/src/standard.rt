@@ -1,7 +1,8 @@
 //! std's readers and writers as sources and sinks: the trusted edge.
 
-ghost use Rattle.std.specs.Prelude.{◌≡◌, ◌≤◌, ◌<◌, length};
-ghost use Rattle.km_edge.specs.Streams.{raised as raised_of};
+ghost use Rattle.std.specs.Prelude.{◌≡◌, ◌≤◌, ◌<◌, length, IfOk, IfErr};
+ghost use Rattle.std.specs.Io.KnownBytes.{Keeps};
+ghost use Rattle.km_edge.specs.Streams.{Rose};
 
 use crate::errors::Failed;
 use crate::streams::{Sink, Source};
@@ -52,6 +53,23 @@ impl<W> StdSink<W> {
         ensures faults { result.faults ≡ 0 }
     {
         StdSink { writer, faults: 0 }
+    }
+}
+
+impl<W: Write> StdSink<W> {
+    /// Has the writer hand on what it kept back. A failure is a fault like that of a write.
+    pub fn flush(&mut self) -> Result<(), Failed>
+        ensures held { Keeps (W.contents self.old.writer) (W.contents self.new.writer) }
+        ensures ok { IfOk result (λ _. self.new.faults ≡ self.old.faults) }
+        ensures failed { IfErr result (λ _. Rose self.old.faults self.new.faults) }
+    {
+        match self.writer.flush() {
+            Ok(()) => Ok(()),
+            Err(_) => {
+                self.faults = self.faults.saturating_add(1);
+                Err(Failed)
+            }
+        }
     }
 }
 

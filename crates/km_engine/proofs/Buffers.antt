@@ -1,45 +1,47 @@
 -- Running what a buffer holds.
-use Rattle.std.proofs.Common.{◌≡◌, ℕ, ◌+◌, List, [], ◌∷◌, ◌++◌, length, drop, Ok, ap, sym, subst, ◌∙◌, refl, append_assoc}
+use Rattle.std.proofs.Common.{◌≡◌, ℕ, ◌+◌, List, [], ◌∷◌, ◌++◌, length, drop, Ok, ap, sym, ◌∙◌, refl, append_assoc}
 use Rattle.km_model.specs.declared.lines.Line.{Line}
 use Rattle.km_model.specs.declared.status.Status.{Status}
-use Rattle.km_model.specs.Grammar.{line_by}
-use Rattle.km_edge.specs.Streams.{SinkState, Wrote}
+use Rattle.km_model.specs.Grammar.{line_of}
+use Rattle.km_model.specs.Output.{is_fresh}
+use Rattle.km_edge.specs.Streams.{SinkState}
 use Rattle.km_edge.proofs.Writing.{wrote_none, wrote_more}
-use Rattle.km_script.specs.Built.{built}
-use Rattle.km_engine.specs.Session.{Session, is_fresh, line_text, after_line}
-use Rattle.km_engine.specs.Steps.{RanFrom, RanAll, Stops, StopsAt}
+use Rattle.km_engine.specs.Session.{Session, Place, StandsAt}
+use Rattle.km_engine.specs.Steps.{RanOn, RanAll, Stops, StopsAt}
 use Rattle.km_engine.proofs.LineLists.{IsLine}
-use Rattle.km_engine.proofs.Running.{ran_none, ran_more, ran_line}
+use Rattle.km_engine.proofs.Running.{ran_none, ran_more, ran_line, behind}
 
 -- nothing of what is held was run yet
-pub all_none : (s : Session) (held : List ℕ) (k : SinkState) → RanAll s s held held k k
-all_none s held k = record { front = []; written = []; parts = refl; ran = ran_none s; wrote = wrote_none k }
+pub all_none : (p : Place) (s : Session) (held : List ℕ) (k : SinkState) → StandsAt s p → RanAll p s held held k k
+all_none p s held k stands = record { front = []; written = []; place = p; parts = refl; ran = ran_none p; stands = stands; wrote = wrote_none k }
 
 -- one line more was run
-pub all_more : (s s' s'' : Session) (held held' held'' : List ℕ) (k k' k'' : SinkState) (l : List ℕ) (x : Line) → RanAll s s' held held' k k'
-    → IsLine l held' → line_by built (is_fresh s') l ≡ Ok x → s'' ≡ after_line s' x → held'' ≡ drop (length l + 1) held' → Wrote k' k'' (line_text s' x)
-    → RanAll s s'' held held'' k k''
-all_more s s' s'' held held' held'' k k' k'' l x all is_line read after passed wrote =
+pub all_more : (p : Place) (s' s'' : Session) (held held' held'' : List ℕ) (k k' k'' : SinkState) (l : List ℕ) (all : RanAll p s' held held' k k') (x : Line)
+    → line_of (is_fresh all.place.script) l ≡ Ok x → RanOn s''.machine all.place.script x k' k'' → s''.number ≡ s'.number + 1
+    → IsLine l held' → held'' ≡ drop (length l + 1) held' → RanAll p s'' held held'' k k''
+all_more p s' s'' held held' held'' k k' k'' l all x read on number is_line passed =
     let rest : held' ≡ (l ++ 10 ∷ []) ++ held'' =
     is_line.parts ∙ sym (append_assoc l (10 ∷ []) (drop (length l + 1) held')) ∙ ap (λ h. (l ++ 10 ∷ []) ++ h) (sym passed) in
     record {
       front = all.front ++ (l ++ 10 ∷ []);
-      written = all.written ++ line_text s' x;
+      written = all.written ++ on.text;
+      place = behind all.place on.next;
       parts = all.parts ∙ ap (λ h. all.front ++ h) rest ∙ sym (append_assoc all.front (l ++ 10 ∷ []) held'');
       ran =
-          ran_more s s' s'' all.front all.written (l ++ 10 ∷ []) (line_text s' x) all.ran
-          (subst (λ t. RanFrom s' (l ++ 10 ∷ []) (line_text s' x) t) (sym after) (ran_line s' l x is_line.no_feed read));
-      wrote = wrote_more k k' k'' all.written (line_text s' x) all.wrote wrote;
+          ran_more p all.place (behind all.place on.next) all.front all.written (l ++ 10 ∷ []) on.text all.ran
+          (ran_line all.place l x on.next on.text is_line.no_feed read on.leads);
+      stands = record { number = number ∙ ap (λ n. n + 1) all.stands.number; led = on.led };
+      wrote = wrote_more k k' k'' all.written on.text all.wrote on.wrote;
     }
 
 -- the next line ends the run
-pub all_stop : (s s' : Session) (held held' : List ℕ) (k k' k'' : SinkState) (ended : Status) → RanAll s s' held held' k k'
-    → StopsAt s' held' k' k'' ended → Stops s held k k'' ended
-all_stop s s' held held' k k' k'' ended all stops = record {
+pub all_stop : (p : Place) (s' : Session) (held held' : List ℕ) (k k' k'' : SinkState) (ended : Status) (all : RanAll p s' held held' k k')
+    → StopsAt all.place held' k' k'' ended → Stops p held k k'' ended
+all_stop p s' held held' k k' k'' ended all stops = record {
   front = all.front;
   rest = held';
   written = all.written;
-  script = s';
+  place = all.place;
   sink = k';
   parts = all.parts;
   ran = all.ran;

@@ -1,25 +1,50 @@
 -- How a run ends, from how its parts do.
-use Rattle.std.proofs.Common.{◌≡◌, ℕ, ◌+◌, ◌-◌, ◌≤◌, Bool, true, false, nat_le, List, [], ◌∷◌, ◌++◌, length, take, drop, refl, ap, sym, ◌∙◌, arith, append_assoc, length-append, if◌then◌else◌}
+use Rattle.std.proofs.Common.{◌≡◌, ℕ, ◌+◌, ◌-◌, ◌<◌, ◌≤◌, Bool, true, false, nat_le, List, [], ◌∷◌, ◌++◌, length, take, drop, Ok, refl, ap, sym, subst, ◌∙◌, arith, append_assoc, length-append, if◌then◌else◌}
 use Rattle.std.proofs.lemmas.Bool.Decides.{nat_tests}
 use Rattle.std.proofs.lemmas.List.{append-nil, take-append-drop}
-use Rattle.std.proofs.Math.Seq.{take-append-add}
+use Rattle.std.proofs.Math.Seq.{take-append-add, take-append_seam}
 use Rattle.km_model.specs.declared.status.Status.{Status}
 use Rattle.km_model.specs.declared.status.Status.TheVariants as status
-use Rattle.km_model.specs.Output.{is_empty, is_unread, limit, lines_of, end_of_script, status_from, status_then, status_by, commands_in}
+use Rattle.km_model.specs.declared.lines.Command.TheVariants.{Memory}
+use Rattle.km_model.specs.declared.lines.Line.TheVariants as line
+use Rattle.km_model.specs.Grammar.{rules, line_of}
+use Rattle.km_model.specs.Output.{Script, Fresh, Begun, Prints, IsOut, is_empty, is_fresh, is_unread, limit, lines_of, end_of_script, status_from, status_then, status_of}
 use Rattle.km_model.specs.Text.{not_a_command_text}
-use Rattle.km_edge.specs.Streams.{SinkState, Rose, Wrote}
+use Rattle.km_edge.specs.Streams.{SinkState, Rose, Wrote, StoppedAt}
 use Rattle.km_edge.proofs.Writing.{wrote_more, rose_later}
-use Rattle.km_script.specs.Built.{built}
-use Rattle.km_engine.specs.Session.{Session, start, is_fresh, prints, prints_then, output_of}
-use Rattle.km_engine.specs.Outcome.{lines_in, whole_lines, Ends}
+use Rattle.km_engine.specs.Session.{Place, first_place}
+use Rattle.km_engine.specs.Outcome.{lines_in, IsPrefix, Ends, EndsWithin, EndsBehindMemory}
 use Rattle.km_engine.specs.Steps.{KeepsLong, RanFrom, StopsAt}
+use Rattle.km_engine.proofs.Fronts.{prefix_trans, prints_front}
+use Rattle.km_engine.proofs.Totals.{has_output}
+use Rattle.km_engine.proofs.Running.{prints_refused, prints_from, ends_from}
 
-keeps_empty : KeepsLong is_empty
+pub keeps_empty : KeepsLong is_empty
 keeps_empty [] h = absurd (omega (arith, h))
 keeps_empty (c ∷ cs) h = refl
 
 keeps_unread : KeepsLong is_unread
 keeps_unread l h = grind (arith, nat_tests)
+
+-- bytes within the limit
+within_at : (bytes : List ℕ) (b : Bool) → b ≡ true
+    → ((if b then lines_in is_empty bytes else lines_in is_unread (take limit bytes)) ≡ lines_in is_empty bytes) × ((if b then status.Ok else status.TooLong) ≡ status.Ok)
+within_at bytes true e = (refl, refl)
+within_at bytes false e = absurd (cc)
+
+pub within_limit : (bytes : List ℕ) → length bytes ≤ limit → (lines_of bytes ≡ lines_in is_empty bytes) × (end_of_script bytes ≡ status.Ok)
+within_limit bytes h = within_at bytes (nat_le (length bytes) limit) (grind (arith, nat_tests))
+
+-- bytes beyond the limit
+beyond_at : (front bytes : List ℕ) (b : Bool) → b ≡ false → take limit bytes ≡ front
+    → ((if b then lines_in is_empty bytes else lines_in is_unread (take limit bytes)) ≡ lines_in is_unread front) × ((if b then status.Ok else status.TooLong) ≡ status.TooLong)
+beyond_at front bytes true e h = absurd (cc)
+beyond_at front bytes false e h = (ap (lines_in is_unread) h, refl)
+
+pub beyond_limit : (front rest : List ℕ) → length front ≡ limit → 0 < length rest → (lines_of (front ++ rest) ≡ lines_in is_unread front) × (end_of_script (front ++ rest) ≡ status.TooLong)
+beyond_limit front rest size more =
+    let long : limit < length (front ++ rest) = omega (arith, size, more, length-append front rest) in
+    beyond_at front (front ++ rest) (nat_le (length (front ++ rest)) limit) (grind (arith, nat_tests)) (ap (λ n. take n (front ++ rest)) (sym size) ∙ take-append_seam front rest)
 
 -- the lines of bytes of which a front is within the limit
 split_at : (n : ℕ) (front rest : List ℕ) (b : Bool) → nat_le (length (front ++ rest)) n ≡ b → length front ≤ n
@@ -37,20 +62,63 @@ lines_split : (front rest : List ℕ) → length front ≤ limit
     → (dropped : List ℕ → Bool) × (more : List ℕ) × KeepsLong dropped × (lines_of (front ++ rest) ≡ lines_in dropped (front ++ more))
 lines_split front rest h = split_at limit front rest (nat_le (length (front ++ rest)) limit) refl h
 
--- what comes behind lines that were run
-prints_behind : (s : Session) (front written rest extra : List ℕ) → RanFrom start front written s → length (front ++ rest) ≤ limit
-    → (dropped : List ℕ → Bool) × (more : List ℕ) × KeepsLong dropped
-    × (output_of ((front ++ rest) ++ extra) ≡ written ++ prints s (lines_in dropped (rest ++ more)))
-    × ((otherwise : Status) → status_from built otherwise true 1 (lines_of ((front ++ rest) ++ extra)) ≡ status_from built otherwise (is_fresh s) s.number (lines_in dropped (rest ++ more)))
-prints_behind s front written rest extra ran h =
-    let split = lines_split (front ++ rest) extra h in
-    let behind = append_assoc front rest split.1 in (
-      split.0,
-      split.1,
-      split.2,
-      ap (prints start) (split.3 ∙ ap (lines_in split.0) behind) ∙ ran.prints_on split.0 (rest ++ split.1),
-      λ otherwise. ap (status_from built otherwise true 1) (split.3 ∙ ap (lines_in split.0) behind) ∙ ran.ends_on split.0 otherwise (rest ++ split.1),
+-- lines at the front were run, and those behind them lead to a text: the whole lines do to both
+pub out_of : (front written rest out : List ℕ) (p : Place) (end : Script) → RanFrom first_place front written p → length (front ++ rest) ≤ limit
+    → Prints p.script p.number (lines_in is_empty rest) end out → IsOut (front ++ rest) (written ++ out)
+out_of front written rest out p end ran size prints =
+    (end, subst (λ ls. Prints Fresh 1 ls end (written ++ out)) (sym (within_limit (front ++ rest) size).0) (prints_from first_place p front written rest out is_empty end ran prints))
+
+-- a text that stopped at a fault is the front of what the first lines lead to
+pub ends_within : (taken front written text : List ℕ) (n : ℕ) (lines behind : List (List ℕ)) (p : Place) (end : Script) (k k' k'' : SinkState)
+    → (ran : RanFrom first_place front written p) → Wrote k k' written → lines_of taken ≡ ran.lines ++ (lines ++ behind)
+    → Prints p.script p.number lines end text → StoppedAt k' k'' text n
+    → Wrote k k'' (written ++ take n text) × Rose k.faults k''.faults × EndsWithin taken (written ++ take n text)
+ends_within taken front written text n lines behind p end k k' k'' ran wrote cut prints stopped =
+    let parts : lines_of taken ≡ (ran.lines ++ lines) ++ behind = cut ∙ sym (append_assoc ran.lines lines behind) in
+    let first : IsPrefix (written ++ take n text) (written ++ text) =
+    (drop n text, ap (λ t. written ++ t) (sym (take-append-drop n text)) ∙ sym (append_assoc written (take n text) (drop n text))) in
+    let whole = has_output taken in (
+      wrote_more k k' k'' written (take n text) wrote stopped.wrote,
+      rose_later k.faults k'.faults k''.faults wrote.faults_kept stopped.wrote.faults_kept stopped.rose,
+      record {
+        out = whole.0;
+        is_out = whole.1;
+        front =
+            prefix_trans (written ++ take n text) (written ++ text) whole.0 first
+            (prints_front (ran.lines ++ lines) behind Fresh 1 end whole.1.0 (written ++ text) whole.0 (ran.prints_on lines end text prints)
+            (subst (λ ls. Prints Fresh 1 ls whole.1.0 whole.0) parts whole.1.1));
+      },
     )
+
+fresh_is : (s : Script) → is_fresh s ≡ true → s ≡ Fresh
+fresh_is Fresh e = refl
+fresh_is (Begun words h) e = absurd (cc)
+
+-- no command and no refused line is among lines that leave a script fresh
+blank_lines : (front written : List ℕ) (p : Place) (ran : RanFrom first_place front written p) → is_fresh p.script ≡ true → Prints Fresh 1 ran.lines Fresh []
+blank_lines front written p ran fresh =
+    subst (λ s. Prints Fresh 1 ran.lines s []) (fresh_is p.script fresh)
+    (subst (λ ls. Prints Fresh 1 ls p.script []) (append-nil ran.lines)
+    (subst (λ out. Prints Fresh 1 (ran.lines ++ []) p.script out) (append-nil written ∙ (ran.still_fresh fresh).1) (ran.prints_on [] p.script [] (refl, refl))))
+
+-- there was no memory for the first command's
+pub ends_behind_memory : (front written rest behind : List ℕ) (taken memory : List ℕ) (others : List (List ℕ)) (words : ℕ) (p : Place) (ran : RanFrom first_place front written p)
+    → is_fresh p.script ≡ true → line_of true memory ≡ Ok (line.Command (Memory words)) → lines_of taken ≡ ran.lines ++ memory ∷ others
+    → taken ≡ (front ++ rest) ++ behind → lines_in is_empty rest ≡ memory ∷ [] → length behind ≤ 4096 → EndsBehindMemory taken
+ends_behind_memory front written rest behind taken memory others words p ran fresh is_memory lines parts line few = record {
+  before = ran.lines;
+  memory = memory;
+  others = others;
+  words = words;
+  lines = lines;
+  blank = blank_lines front written p ran fresh;
+  is_memory = is_memory;
+  front = front ++ rest;
+  behind = behind;
+  parts = parts;
+  up_to = ran.cut is_empty rest ∙ ap (λ ls. ran.lines ++ ls) line;
+  few = few;
+}
 
 -- the run ends at a line that ends it
 abbrev pub StopEnds : Type 0 → List ℕ → List ℕ → SinkState → SinkState → Status → Type 0
@@ -58,61 +126,59 @@ StopEnds ReadRose held extra k k' ended =
     (written : List ℕ) × Wrote k k' written
     × ((remaining : List ℕ) → Ends ((held ++ extra) ++ remaining) (held ++ extra) written ReadRose (Rose k.faults k'.faults) ended)
 
-pub stop_at : (ReadRose : Type 0) (s : Session) (front written rest extra : List ℕ) (k k' k'' : SinkState) (ended : Status) → RanFrom start front written s → Wrote k k' written
-    → length (front ++ rest) ≤ limit → length (rest ++ extra) ≤ 4096 → StopsAt s rest k' k'' ended → StopEnds ReadRose (front ++ rest) extra k k'' ended
-stop_at ReadRose s front written rest extra k k' k'' (status.NotACommand n c) ran wrote size room stop = (
+pub stop_at : (ReadRose : Type 0) (p : Place) (front written rest extra : List ℕ) (k k' k'' : SinkState) (ended : Status) → RanFrom first_place front written p → Wrote k k' written
+    → length (front ++ rest) ≤ limit → length (rest ++ extra) ≤ 4096 → StopsAt p rest k' k'' ended → StopEnds ReadRose (front ++ rest) extra k k'' ended
+stop_at ReadRose p front written rest extra k k' k'' (status.NotACommand n c) ran wrote size room stop = (
   written ++ not_a_command_text n c,
   wrote_more k k' k'' written (not_a_command_text n c) wrote stop.0,
   λ remaining.
-      let behind = prints_behind s front written rest (extra ++ remaining) ran size in
-      let next = stop.2 behind.0 behind.1 behind.2 in
-      let bytes : ((front ++ rest) ++ extra) ++ remaining ≡ (front ++ rest) ++ (extra ++ remaining) = append_assoc (front ++ rest) extra remaining in (
-        ap (λ b. status_by built b) bytes ∙ behind.4 (end_of_script ((front ++ rest) ++ (extra ++ remaining)))
-            ∙ ap (status_from built (end_of_script ((front ++ rest) ++ (extra ++ remaining))) (is_fresh s) s.number) next.2
-            ∙ ap (λ r. status_then (is_fresh s) s.number r (λ first. status_from built (end_of_script ((front ++ rest) ++ (extra ++ remaining))) first (s.number + 1) next.1)) next.3
+      let bytes : ((front ++ rest) ++ extra) ++ remaining ≡ (front ++ rest) ++ (extra ++ remaining) = append_assoc (front ++ rest) extra remaining in
+      let split = lines_split (front ++ rest) (extra ++ remaining) size in
+      let next = stop.2 split.0 split.1 split.2 in
+      let lines : lines_of ((front ++ rest) ++ (extra ++ remaining)) ≡ lines_in split.0 (front ++ (rest ++ split.1)) = split.3 ∙ ap (lines_in split.0) (append_assoc front rest split.1) in
+      let end = end_of_script ((front ++ rest) ++ (extra ++ remaining)) in (
+        ap status_of bytes
+            ∙ ap (status_from rules end true 1) lines
+            ∙ ends_from first_place p front written (rest ++ split.1) split.0 end ran
+            ∙ ap (status_from rules end (is_fresh p.script) p.number) next.2
+            ∙ ap (λ r. status_then (is_fresh p.script) p.number r (λ first. status_from rules end first (p.number + 1) next.1)) next.3
             ∙ ap (λ m. status.NotACommand m c) (sym stop.1),
-        sym (ap output_of bytes ∙ behind.3 ∙ ap (λ ls. written ++ prints s ls) next.2 ∙ ap (λ r. written ++ prints_then s r (λ s'. prints s' next.1)) next.3
-            ∙ ap (λ m. written ++ not_a_command_text m c) (sym stop.1)),
-      ),
-)
-stop_at ReadRose s front written rest extra k k' k'' status.WriteFault ran wrote size room stop =
-    let text = stop.0 in
-    let n = stop.1 in
-    let stopped = stop.2 in
-    let behind = prints_behind s front written rest extra ran size in
-    let next = stop.3 behind.0 behind.1 behind.2 in (
-      written ++ take n text,
-      wrote_more k k' k'' written (take n text) wrote stopped.wrote,
-      λ remaining. (
-        rose_later k.faults k'.faults k''.faults wrote.faults_kept stopped.wrote.faults_kept stopped.rose,
         (
-          drop n text ++ next.0,
-          behind.3 ∙ ap (λ t. written ++ t) (next.1 ∙ ap (λ t. t ++ next.0) (sym (take-append-drop n text)) ∙ append_assoc (take n text) (drop n text) next.0)
-              ∙ sym (append_assoc written (take n text) (drop n text ++ next.0)),
+          p.script,
+          subst (λ b. Prints Fresh 1 (lines_of b) p.script (written ++ not_a_command_text n c)) (sym bytes)
+              (subst (λ ls. Prints Fresh 1 ls p.script (written ++ not_a_command_text n c)) (sym lines)
+              (prints_from first_place p front written (rest ++ split.1) (not_a_command_text n c) split.0 p.script ran
+              (subst (λ ls. Prints p.script p.number ls p.script (not_a_command_text n c)) (sym next.2)
+              (subst (λ m. Prints p.script p.number (next.0 ∷ next.1) p.script (not_a_command_text m c)) (sym stop.1)
+              (prints_refused p.script p.number next.0 next.1 (record { column = c }) next.3))))),
         ),
       ),
-    )
-stop_at ReadRose s front written rest extra k k' k'' status.NoMemory ran wrote size room stop =
-    let l = stop.2.0 in
-    let r = stop.2.1 in
-    let fresh = ran.still_fresh stop.1 in (
+)
+stop_at ReadRose p front written rest extra k k' k'' status.WriteFault ran wrote size room stop =
+    let split = lines_split (front ++ rest) extra size in
+    let next = stop.next split.0 split.1 split.2 in
+    let cut : lines_of ((front ++ rest) ++ extra) ≡ ran.lines ++ (next.0 ∷ next.1) =
+    split.3 ∙ ap (lines_in split.0) (append_assoc front rest split.1) ∙ ran.cut split.0 (rest ++ split.1) ∙ ap (λ ls. ran.lines ++ ls) next.2 in
+    let within = ends_within ((front ++ rest) ++ extra) front written stop.text stop.n (next.0 ∷ []) next.1 p stop.end k k' k'' ran wrote cut next.3 stop.stopped in
+    (written ++ take stop.n stop.text, within.0, λ remaining. (within.1, within.2))
+stop_at ReadRose p front written rest extra k k' k'' status.NoMemory ran wrote size room stop =
+    let memory = stop.2 in
+    let split = lines_split (front ++ rest) extra size in
+    let next = memory.next split.0 split.1 in
+    let lines : lines_of ((front ++ rest) ++ extra) ≡ ran.lines ++ memory.l ∷ next.0 =
+    split.3 ∙ ap (lines_in split.0) (append_assoc front rest split.1) ∙ ran.cut split.0 (rest ++ split.1) ∙ ap (λ ls. ran.lines ++ ls) next.1 in
+    let parts : (front ++ rest) ++ extra ≡ (front ++ memory.front) ++ (memory.behind ++ extra) =
+    ap (λ x. (front ++ x) ++ extra) memory.parts ∙ ap (λ x. x ++ extra) (sym (append_assoc front memory.front memory.behind)) ∙ append_assoc (front ++ memory.front) memory.behind extra in
+    let few : length (memory.behind ++ extra) ≤ 4096 =
+    omega (arith, room, length-append rest extra, ap length memory.parts, length-append memory.front memory.behind, length-append memory.behind extra) in (
       written ++ [],
       wrote_more k k' k'' written [] wrote stop.0,
       λ remaining. (
-        append-nil written ∙ fresh.1,
-        (
-          front,
-          l,
-          r ++ extra,
-          stop.2.2,
-          ap (λ x. (front ++ x) ++ extra) stop.2.3 ∙ ap (λ x. x ++ extra) (sym (append_assoc front l r)) ∙ append_assoc (front ++ l) r extra,
-          ap (λ x. commands_in built true (whole_lines x)) (sym (append-nil front)) ∙ fresh.2 is_unread [],
-          stop.2.4,
-          omega (arith, room, length-append rest extra, length-append r extra, ap length stop.2.3, length-append l r),
-        ),
+        append-nil written ∙ (ran.still_fresh stop.1).1,
+        ends_behind_memory front written memory.front (memory.behind ++ extra) ((front ++ rest) ++ extra) memory.l next.0 memory.words p ran stop.1 memory.is_memory lines parts memory.up_to few,
       ),
     )
-stop_at ReadRose s front written rest extra k k' k'' status.Ok ran wrote size room stop = absurd stop
-stop_at ReadRose s front written rest extra k k' k'' status.ReadFault ran wrote size room stop = absurd stop
-stop_at ReadRose s front written rest extra k k' k'' (status.BadWords _) ran wrote size room stop = absurd stop
-stop_at ReadRose s front written rest extra k k' k'' status.TooLong ran wrote size room stop = absurd stop
+stop_at ReadRose p front written rest extra k k' k'' status.Ok ran wrote size room stop = absurd stop
+stop_at ReadRose p front written rest extra k k' k'' status.ReadFault ran wrote size room stop = absurd stop
+stop_at ReadRose p front written rest extra k k' k'' (status.BadWords _) ran wrote size room stop = absurd stop
+stop_at ReadRose p front written rest extra k k' k'' status.TooLong ran wrote size room stop = absurd stop

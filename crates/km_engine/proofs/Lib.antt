@@ -1,7 +1,13 @@
 pub mod LineLists
 pub mod Fit
+pub mod Histories
+pub mod Timely
+pub mod Totals
 pub mod Running
+pub mod Rooms
+pub mod Lines
 pub mod Stopping
+pub mod Fronts
 pub mod Buffers
 pub mod Rests
 pub mod Endings

@@ -7,87 +7,110 @@ use Rattle.km_model.specs.declared.lines.Line.TheVariants as line
 use Rattle.km_model.specs.declared.lines.NotACommand.{NotACommand as Refused}
 use Rattle.km_model.specs.declared.status.Status.{Status}
 use Rattle.km_model.specs.declared.status.Status.TheVariants as status
-use Rattle.km_model.specs.Grammar.{line_by, is_comment, command_line}
-use Rattle.km_model.specs.Output.{all_but_last}
+use Rattle.km_model.specs.Grammar.{rules, line_by, line_of, is_comment, command_line}
+use Rattle.km_model.specs.Output.{Script, LeadsLine, Prints, all_but_last, is_empty, is_fresh}
 use Rattle.km_model.specs.Pieces.{pieces}
 use Rattle.km_model.specs.Text.{not_a_command_text}
 use Rattle.km_edge.specs.Streams.{SinkState, Wrote}
-use Rattle.km_script.specs.Built.{built}
-use Rattle.km_engine.specs.Session.{Session, is_fresh, line_text, after_line, prints, prints_then}
-use Rattle.km_engine.specs.Outcome.{lines_in, IsPrefix}
-use Rattle.km_engine.specs.Steps.{KeepsLong, Refuses, EndsAt, StopsAt}
+use Rattle.km_engine.specs.Session.{Place}
+use Rattle.km_engine.specs.Outcome.{lines_in}
+use Rattle.km_engine.specs.Steps.{KeepsLong, Refuses, EndsRun, EndsAt, StopsAt}
 use Rattle.km_engine.proofs.LineLists.{NoFeed, IsLine, lines_cons, front_of_piece}
+use Rattle.km_engine.proofs.Running.{prints_cons, prints_refused}
 
 -- a refusal by its number and column
-pub refusal_by : (n c m d : ℕ) (k k' : SinkState) → m ≡ n → d ≡ c → Wrote k k' (not_a_command_text n c) → Wrote k k' (not_a_command_text m d)
+refusal_by : (n c m d : ℕ) (k k' : SinkState) → m ≡ n → d ≡ c → Wrote k k' (not_a_command_text n c) → Wrote k k' (not_a_command_text m d)
 refusal_by n c m d k k' e f w = subst (λ x. Wrote k k' (not_a_command_text x d)) (sym e) (subst (λ x. Wrote k k' (not_a_command_text n x)) (sym f) w)
 
--- what a next line prints is at the front
-prefix_of : (s : Session) (l : List ℕ) (ls : List (List ℕ)) (r : Result Line Refused) → line_by built (is_fresh s) l ≡ r
-    → (rest : List ℕ) × (prints s (l ∷ ls) ≡ prints_then s r (λ _. []) ++ rest)
-prefix_of s l ls (Err e) h = ([], ap (λ x. prints_then s x (λ s'. prints s' ls)) h ∙ sym (append-nil _))
-prefix_of s l ls (Ok x) h =
-    (prints (after_line s x) ls, ap (λ y. prints_then s y (λ s'. prints s' ls)) h ∙ ap (λ t. t ++ prints (after_line s x) ls) (sym (append-nil (line_text s x))))
+-- a line that is run alone prints its text
+pub prints_one : (m next : Script) (n : ℕ) (l : List ℕ) (x : Line) (text : List ℕ) → line_of (is_fresh m) l ≡ Ok x → LeadsLine m x next text → Prints m n (l ∷ []) next text
+prints_one m next n l x text read leads =
+    subst (λ t. Prints m n (l ∷ []) next t) (append-nil text) (prints_cons m next next n l [] x text [] read leads (refl, refl))
 
--- what the next line of what is held prints is at the front
-next_prefix : (s : Session) (held more l : List ℕ) (ls : List (List ℕ)) (dropped : List ℕ → Bool) (r : Result Line Refused) → lines_in dropped (held ++ more) ≡ l ∷ ls
-    → line_by built (is_fresh s) l ≡ r → IsPrefix (prints_then s r (λ _. [])) (prints s (lines_in dropped (held ++ more)))
-next_prefix s held more l ls dropped r cut h =
-    let front = prefix_of s l ls r h in (front.0, ap (prints s) cut ∙ front.1)
+-- whatever comes behind these bytes, the next line is refused
+abbrev pub NextRefused : Place → List ℕ → ℕ → Type 0
+NextRefused p held c =
+    (dropped : List ℕ → Bool) (more : List ℕ) → KeepsLong dropped
+    → (l : List ℕ) × (ls : List (List ℕ)) × (lines_in dropped (held ++ more) ≡ l ∷ ls) × (line_of (is_fresh p.script) l ≡ Err (record { column = c }))
 
-stops_read : (s : Session) (l held : List ℕ) (k k' : SinkState) (ended : Status) (r : Result Line Refused)
-    → ((dropped : List ℕ → Bool) (more : List ℕ) → (ls : List (List ℕ)) × (lines_in dropped (held ++ more) ≡ l ∷ ls))
-    → ((x : List ℕ) × (held ≡ l ++ x)) → line_by built (is_fresh s) l ≡ r → EndsAt s r k k' ended → StopsAt s held k k' ended
-stops_read s l held k k' (status.NotACommand m d) (Err e) cut rest h stop = (
-  refusal_by s.number e.column m d k k' stop.0 stop.1 stop.2,
+-- a refused line ends the run
+stops_refused : (p : Place) (held : List ℕ) (c : ℕ) (k k' : SinkState) (ended : Status) → NextRefused p held c → Refuses p.number c k k' ended → StopsAt p held k k' ended
+stops_refused p held c k k' (status.NotACommand m d) next stop = (
+  refusal_by p.number c m d k k' stop.0 stop.1 stop.2,
   stop.0,
-  λ dropped more keep. let c = cut dropped more in (l, c.0, c.1, h ∙ ap (λ x. Err (record { column = x })) (sym stop.1)),
+  λ dropped more keep. let l = next dropped more keep in (l.0, l.1, l.2, l.3 ∙ ap (λ x. Err (record { column = x })) (sym stop.1)),
 )
-stops_read s l held k k' status.WriteFault (Err e) cut rest h stop =
-    (not_a_command_text s.number e.column, stop.0, stop.1, λ dropped more keep. let c = cut dropped more in next_prefix s held more l c.0 dropped (Err e) c.1 h)
-stops_read s l held k k' status.WriteFault (Ok x) cut rest h stop = (
-  line_text s x,
+stops_refused p held c k k' status.WriteFault next stop =
+    record {
+      text = not_a_command_text p.number c;
+      n = stop.0;
+      end = p.script;
+      next = λ dropped more keep. let l = next dropped more keep in (l.0, l.1, l.2, prints_refused p.script p.number l.0 [] (record { column = c }) l.3);
+      stopped = stop.1;
+    }
+stops_refused p held c k k' status.Ok next stop = absurd stop
+stops_refused p held c k k' status.ReadFault next stop = absurd stop
+stops_refused p held c k k' status.NoMemory next stop = absurd stop
+stops_refused p held c k k' (status.BadWords _) next stop = absurd stop
+stops_refused p held c k k' status.TooLong next stop = absurd stop
+
+-- the next line is the first of these lines
+next_line : (dropped : List ℕ → Bool) (l rest more : List ℕ) → NoFeed l → lines_in dropped ((l ++ 10 ∷ rest) ++ more) ≡ l ∷ lines_in dropped (rest ++ more)
+next_line dropped l rest more no_feed = ap (lines_in dropped) (append_assoc l (10 ∷ rest) more) ∙ lines_cons dropped l (rest ++ more) no_feed
+
+-- a line that was read ends the run
+stops_run : (p : Place) (l rest : List ℕ) (k k' : SinkState) (ended : Status) (x : Line) → NoFeed l → line_of (is_fresh p.script) l ≡ Ok x
+    → EndsRun p.script x k k' ended → StopsAt p (l ++ 10 ∷ rest) k k' ended
+stops_run p l rest k k' status.WriteFault x no_feed read stop =
+    record {
+      text = stop.1;
+      n = stop.2;
+      end = stop.0;
+      next = λ dropped more keep. (l, lines_in dropped (rest ++ more), next_line dropped l rest more no_feed, prints_one p.script stop.0 p.number l x stop.1 read stop.3);
+      stopped = stop.4;
+    }
+stops_run p l rest k k' status.NoMemory x no_feed read stop = (
   stop.0,
   stop.1,
-  λ dropped more keep.
-      let c = cut dropped more in
-      subst (λ t. IsPrefix t (prints s (lines_in dropped (held ++ more)))) (append-nil (line_text s x)) (next_prefix s held more l c.0 dropped (Ok x) c.1 h),
+  record {
+    l = l;
+    words = stop.2.0;
+    is_memory = ap (λ b. line_of b l) (sym stop.1) ∙ read ∙ ap Ok stop.2.1;
+    next = λ dropped more. (lines_in dropped (rest ++ more), next_line dropped l rest more no_feed);
+    front = l ++ 10 ∷ [];
+    behind = rest;
+    parts = sym (append_assoc l (10 ∷ []) rest);
+    up_to = lines_cons is_empty l [] no_feed;
+  },
 )
-stops_read s l held k k' status.NoMemory (Ok x) cut rest h stop = (
-  stop.0,
-  stop.1,
-  (l, rest.0, stop.2.0, rest.1, ap (λ b. line_by built b l) (sym stop.1) ∙ h ∙ ap Ok stop.2.1),
-)
-stops_read s l held k k' status.Ok (Err e) cut rest h stop = absurd stop
-stops_read s l held k k' status.ReadFault (Err e) cut rest h stop = absurd stop
-stops_read s l held k k' status.NoMemory (Err e) cut rest h stop = absurd stop
-stops_read s l held k k' (status.BadWords _) (Err e) cut rest h stop = absurd stop
-stops_read s l held k k' status.TooLong (Err e) cut rest h stop = absurd stop
-stops_read s l held k k' status.Ok (Ok x) cut rest h stop = absurd stop
-stops_read s l held k k' (status.NotACommand _ _) (Ok x) cut rest h stop = absurd stop
-stops_read s l held k k' status.ReadFault (Ok x) cut rest h stop = absurd stop
-stops_read s l held k k' (status.BadWords _) (Ok x) cut rest h stop = absurd stop
-stops_read s l held k k' status.TooLong (Ok x) cut rest h stop = absurd stop
+stops_run p l rest k k' status.Ok x no_feed read stop = absurd stop
+stops_run p l rest k k' (status.NotACommand _ _) x no_feed read stop = absurd stop
+stops_run p l rest k k' status.ReadFault x no_feed read stop = absurd stop
+stops_run p l rest k k' (status.BadWords _) x no_feed read stop = absurd stop
+stops_run p l rest k k' status.TooLong x no_feed read stop = absurd stop
+
+stops_read : (p : Place) (l rest : List ℕ) (k k' : SinkState) (ended : Status) (r : Result Line Refused) → NoFeed l → line_of (is_fresh p.script) l ≡ r
+    → EndsAt p r k k' ended → StopsAt p (l ++ 10 ∷ rest) k k' ended
+stops_read p l rest k k' ended (Ok x) no_feed read stop = stops_run p l rest k k' ended x no_feed read stop
+stops_read p l rest k k' ended (Err e) no_feed read stop =
+    stops_refused p (l ++ 10 ∷ rest) e.column k k' ended
+    (λ dropped more keep. (l, lines_in dropped (rest ++ more), next_line dropped l rest more no_feed, read))
+    stop
 
 -- a whole line that is held ends the run
-pub stops_line : (s : Session) (l held : List ℕ) (k k' : SinkState) (ended : Status) → IsLine l held
-    → EndsAt s (line_by built (is_fresh s) l) k k' ended → StopsAt s held k k' ended
-stops_line s l held k k' ended is_line stop =
-    let rest = drop (length l + 1) held in
-    stops_read s l held k k' ended (line_by built (is_fresh s) l)
-    (λ dropped more. (
-      lines_in dropped (rest ++ more),
-      ap (λ h. lines_in dropped (h ++ more)) is_line.parts ∙ ap (lines_in dropped) (append_assoc l (10 ∷ rest) more) ∙ lines_cons dropped l (rest ++ more) is_line.no_feed,
-    ))
-    (10 ∷ rest, is_line.parts) refl stop
+pub stops_line : (p : Place) (l held : List ℕ) (k k' : SinkState) (ended : Status) → IsLine l held
+    → EndsAt p (line_of (is_fresh p.script) l) k k' ended → StopsAt p held k k' ended
+stops_line p l held k k' ended is_line stop =
+    subst (λ h. StopsAt p h k k' ended) (sym is_line.parts)
+    (stops_read p l (drop (length l + 1) held) k k' ended (line_of (is_fresh p.script) l) is_line.no_feed refl stop)
 
-long_is_refused : (first : Bool) (l : List ℕ) → 256 < length l → line_by built first l ≡ Err (record { column = 257 })
+long_is_refused : (first : Bool) (l : List ℕ) → 256 < length l → line_of first l ≡ Err (record { column = 257 })
 unfolding line_by
 long_is_refused first l h = at_test (nat_lt 256 (length l)) (grind (arith, nat_tests))
   where
     at_test : (b : Bool) → b ≡ true
         → (if b then Err (record { column = 257 })
-        else (if is_comment (pieces l) then Ok line.Blank else (elim (pieces l) as (λ _. Result Line Refused) [ [] ↦ Ok line.Blank | _ ∷ _ ↦ command_line built first l ])))
+        else (if is_comment (pieces l) then Ok line.Blank else (elim (pieces l) as (λ _. Result Line Refused) [ [] ↦ Ok line.Blank | _ ∷ _ ↦ command_line rules first l ])))
         ≡ Err (record { column = 257 })
     at_test true e = refl
     at_test false e = absurd (cc)
@@ -113,25 +136,9 @@ long_line dropped held more keep no_feed size =
     (front ++ piece.0, kept.0, ap (lines_in dropped) whole ∙ ap (all_but_last dropped) piece.2 ∙ kept.1, long)
 
 -- too long a line ends the run
-pub stops_long : (s : Session) (held : List ℕ) (k k' : SinkState) (ended : Status) → NoFeed (take 257 held) → 257 ≤ length held
-    → Refuses s.number 257 k k' ended → StopsAt s held k k' ended
-stops_long s held k k' (status.NotACommand m d) no_feed size stop = (
-  refusal_by s.number 257 m d k k' stop.0 stop.1 stop.2,
-  stop.0,
-  λ dropped more keep.
-      let l = long_line dropped held more keep no_feed size in
-      (l.0, l.1, l.2, long_is_refused (is_fresh s) l.0 l.3 ∙ ap (λ x. Err (record { column = x })) (sym stop.1)),
-)
-stops_long s held k k' status.WriteFault no_feed size stop = (
-  not_a_command_text s.number 257,
-  stop.0,
-  stop.1,
-  λ dropped more keep.
-      let l = long_line dropped held more keep no_feed size in
-      next_prefix s held more l.0 l.1 dropped (Err (record { column = 257 })) l.2 (long_is_refused (is_fresh s) l.0 l.3),
-)
-stops_long s held k k' status.Ok no_feed size stop = absurd stop
-stops_long s held k k' status.ReadFault no_feed size stop = absurd stop
-stops_long s held k k' status.NoMemory no_feed size stop = absurd stop
-stops_long s held k k' (status.BadWords _) no_feed size stop = absurd stop
-stops_long s held k k' status.TooLong no_feed size stop = absurd stop
+pub stops_long : (p : Place) (held : List ℕ) (k k' : SinkState) (ended : Status) → NoFeed (take 257 held) → 257 ≤ length held
+    → Refuses p.number 257 k k' ended → StopsAt p held k k' ended
+stops_long p held k k' ended no_feed size stop =
+    stops_refused p held 257 k k' ended
+    (λ dropped more keep. let l = long_line dropped held more keep no_feed size in (l.0, l.1, l.2, long_is_refused (is_fresh p.script) l.0 l.3))
+    stop

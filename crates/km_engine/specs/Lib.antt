@@ -1,3 +1,4 @@
 pub mod Session
+pub mod Headline
 pub mod Outcome
 pub mod Steps

@@ -1,81 +1,62 @@
--- What the lines that are built so far print.
-use Rattle.std.specs.Prelude.{ℕ, ◌+◌, Bool, List, [], ◌∷◌, ◌++◌, Option, Some, None, Result, Ok, Err, is_none, codes}
-use Rattle.km_base.specs.declared.acts.Answer.{Answer}
-use Rattle.km_base.specs.declared.acts.Answer.TheVariants.{At, Refused}
-use Rattle.km_base.specs.declared.acts.Refusal.TheVariants.{Invalid}
-use Rattle.km_model.specs.declared.lines.Command.{Command}
-use Rattle.km_model.specs.declared.lines.Command.TheVariants as command
+-- A script between two lines, as it is held and as the definitions have it.
+use Rattle.std.specs.Prelude.{◌≡◌, ℕ, ◌+◌, ◌*◌, ◌^◌, ◌≤◌, Bool, length, Option, Some, None, is_none}
 use Rattle.km_model.specs.declared.lines.Line.{Line}
 use Rattle.km_model.specs.declared.lines.Line.TheVariants as line
-use Rattle.km_model.specs.declared.lines.NotACommand.{NotACommand}
-use Rattle.km_model.specs.Grammar.{line_by}
-use Rattle.km_model.specs.Output.{lines_of}
-use Rattle.km_model.specs.Text.{at_text, refusal_text, not_a_command_text}
-use Rattle.km_script.specs.Built.{built}
-use Rattle.km_core.specs.Small.{Small, booted, section_answer, after_section, kmalloc_answer, after_kmalloc}
+use Rattle.km_model.specs.Output.{Script, Fresh, Begun, limit}
+use Rattle.km_machine.specs.declared.machine.Machine.{Machine}
+use Rattle.km_machine.specs.Machines.{For, HasRoom, Spent}
 
--- a script between two lines: the number of the next line, and the kernel once `memory` was read
+-- a script between two lines: the number of the next line, and the machine once `memory` was read
 pub record Session : Type 0 where
   pub number : ℕ
-  pub kernel : Option Small
+  pub machine : Option Machine
 
 -- before the first line
 abbrev pub start : Session
-start = record { number = 1; kernel = None }
+start = record { number = 1; machine = None }
 
 -- whether no command was read yet
 abbrev pub is_fresh : Session → Bool
-is_fresh s = is_none s.kernel
+is_fresh s = is_none s.machine
 
--- what an answer prints; `word` is the first word of the line
-abbrev pub answer_text : List ℕ → Answer → List ℕ
-answer_text word (At a) = at_text word a
-answer_text word (Refused r) = refusal_text r
-answer_text word _ = []
+-- where a run stands: the number of the next line, and what the lines before it led to
+pub record Place : Type 0 where
+  pub number : ℕ
+  pub script : Script
 
--- what a command prints. A scan and a read print nothing: the moment is 0, so no block is old enough
-abbrev pub command_text : Small → Command → List ℕ
-command_text k (command.Section name words) = answer_text (codes "section") (section_answer k name words)
-command_text k (command.Kmalloc _ _) = answer_text (codes "kmalloc") (kmalloc_answer k)
-command_text k (command.Write None) = refusal_text Invalid
-command_text k _ = []
+-- before the first line
+abbrev pub first_place : Place
+first_place = record { number = 1; script = Fresh }
 
--- the kernel after a command
-abbrev pub after_command : Small → Command → Small
-after_command k (command.Section name words) = after_section k name words (section_answer k name words)
-after_command k (command.Kmalloc _ _) = after_kmalloc k (kmalloc_answer k)
-after_command k _ = k
+-- a machine, if there is one, stands for what lines led to
+abbrev pub HasLed : Option Machine → Script → Type 0
+HasLed None Fresh = Unit {0}
+HasLed (Some m) (Begun words h) = (words ≡ m.core.parts.words) × For m.core m.words h
+HasLed _ _ = ⊥
 
--- the kernel after the first command
-abbrev pub after_first : Command → Option Small
-after_first (command.Memory words) = Some (booted words)
-after_first _ = None
+-- a script stands at a place
+pub record StandsAt (s : Session) (p : Place) : Type 0 where
+  pub number : s.number ≡ p.number
+  pub led : HasLed s.machine p.script
 
--- what a line prints
-abbrev pub line_text : Session → Line → List ℕ
-line_text s line.Blank = []
-line_text s (line.Command c) = elim s.kernel [ None ↦ [] | Some k ↦ command_text k c ]
+-- the events and milliseconds of a script leave room for those of as many bytes. A line that makes events has at least
+-- 4 bytes with its line feed, fewer than 2^38 events and at most 3,600,000 ms
+abbrev pub HasRoomFor : Option Machine → ℕ → Type 0
+HasRoomFor None bytes = bytes ≤ limit
+HasRoomFor (Some m) bytes =
+    (length m.words ≡ m.core.parts.words)
+    × (m.core.events + 2 ^ 36 * (bytes + 1) ≤ 2 ^ 62)
+    × (m.core.parts.settings.now + 900000 * (bytes + 1) ≤ 2 ^ 62)
 
--- the kernel after a line
-abbrev pub kernel_after : Option Small → Line → Option Small
-kernel_after kernel line.Blank = kernel
-kernel_after None (line.Command c) = after_first c
-kernel_after (Some k) (line.Command c) = Some (after_command k c)
+-- a machine has room for a line
+abbrev pub HasRoomToRun : Option Machine → Line → Type 0
+HasRoomToRun (Some m) (line.Command c) = HasRoom m.core m.words (2 ^ 38) 3600000
+HasRoomToRun _ _ = Unit {0}
 
--- a script after a line
-abbrev pub after_line : Session → Line → Session
-after_line s l = record { number = s.number + 1; kernel = kernel_after s.kernel l }
-
--- what a line prints as it was read, and what the lines behind it print
-abbrev pub prints_then : Session → Result Line NotACommand → (Session → List ℕ) → List ℕ
-prints_then s (Err e) rest = not_a_command_text s.number e.column
-prints_then s (Ok l) rest = line_text s l ++ rest (after_line s l)
-
--- what lines print, from a session on, up to the first that is no command
-abbrev pub prints : Session → List (List ℕ) → List ℕ
-prints s [] = []
-prints s (l ∷ ls) = prints_then s (line_by built (is_fresh s) l) (λ s'. prints s' ls)
-
--- the output of a script, where nothing fails
-abbrev pub output_of : List ℕ → List ℕ
-output_of bytes = prints start (lines_of bytes)
+-- the events and milliseconds of a line; a new machine has none
+abbrev pub SpendsOn : Option Machine → Line → Option Machine → Type 0
+SpendsOn old line.Blank new = new ≡ old
+SpendsOn (Some m) (line.Command c) (Some n) = Spent m.core n.core m.words n.words (2 ^ 38) 3600000
+SpendsOn None (line.Command c) (Some n) =
+    (length n.words ≡ n.core.parts.words) × (n.core.events ≡ 0) × (n.core.parts.settings.now ≡ 0)
+SpendsOn _ (line.Command c) None = ⊥

@@ -8,21 +8,21 @@ use Rattle.km_model.specs.declared.lines.Line.TheVariants as line
 use Rattle.km_model.specs.declared.lines.NotACommand.{NotACommand as Refused}
 use Rattle.km_model.specs.declared.status.Status.{Status}
 use Rattle.km_model.specs.declared.status.Status.TheVariants as status
-use Rattle.km_model.specs.Grammar.{line_by}
+use Rattle.km_model.specs.Grammar.{rules, line_of}
 use Rattle.km_model.specs.Headline.{IsMemorySize}
-use Rattle.km_model.specs.Output.{is_empty, status_from, commands_in}
+use Rattle.km_model.specs.Output.{Script, Prints, LeadsLine, is_empty, is_fresh, status_from}
 use Rattle.km_model.specs.Text.{not_a_command_text}
 use Rattle.km_edge.specs.Streams.{SourceState, SinkState, Rose, Wrote, StoppedAt}
-use Rattle.km_edge.specs.Lines.{Unknown, next_of}
-use Rattle.km_script.specs.Built.{built}
-use Rattle.km_engine.specs.Session.{Session, is_fresh, line_text, kernel_after, after_line, prints}
-use Rattle.km_engine.specs.Outcome.{lines_in, IsPrefix, Ends}
+use Rattle.km_machine.specs.declared.machine.Machine.{Machine}
+use Rattle.km_machine.specs.Lines.{IsFew, is_memory}
+use Rattle.km_engine.specs.Session.{Session, Place, HasLed, StandsAt, HasRoomFor}
+use Rattle.km_engine.specs.Outcome.{lines_in, Ends}
 
--- the first command is `memory` with a number of words that a memory can have
+-- a first command is `memory` with a number of words that a memory can have; a later one is another, and its number is in its range
 abbrev pub IsFit : Bool → Command → Type 0
 IsFit true (Memory words) = IsMemorySize words
 IsFit true _ = ⊥
-IsFit false _ = Unit {0}
+IsFit false c = (is_memory c ≡ false) × IsFew c
 
 -- the same of a line
 abbrev pub IsFitLine : Bool → Line → Type 0
@@ -34,20 +34,22 @@ abbrev pub IsMemory : Line → Type 0
 IsMemory l = (words : ℕ) × (l ≡ line.Command (Memory words))
 
 -- how a line that was read ends a run
-abbrev pub EndsRun : Session → Line → SinkState → SinkState → Status → Type 0
-EndsRun s l k k' status.WriteFault = (n : ℕ) × StoppedAt k k' (line_text s l) n
-EndsRun s l k k' status.NoMemory = Wrote k k' [] × (is_fresh s ≡ true) × IsMemory l
-EndsRun s l k k' _ = ⊥
+abbrev pub EndsRun : Script → Line → SinkState → SinkState → Status → Type 0
+EndsRun m l k k' status.WriteFault = (next : Script) × (text : List ℕ) × (n : ℕ) × LeadsLine m l next text × StoppedAt k k' text n
+EndsRun m l k k' status.NoMemory = Wrote k k' [] × (is_fresh m ≡ true) × IsMemory l
+EndsRun m l k k' _ = ⊥
+
+-- a line that was read was run: a machine, if there is one, stands for what the line led to, and the line's text was written
+pub record RanOn (machine : Option Machine) (m : Script) (l : Line) (k k' : SinkState) : Type 0 where
+  pub next : Script
+  pub text : List ℕ
+  pub leads : LeadsLine m l next text
+  pub led : HasLed machine next
+  pub wrote : Wrote k k' text
 
 -- a line that was read is run
-abbrev pub Runs : Session → Session → Line → SinkState → SinkState → Result (Unit {0}) Status → Type 0
-Runs s s' l k k' result =
-    MatchResult result (λ _. (s' ≡ record s { kernel = kernel_after s.kernel l }) × Wrote k k' (line_text s l)) (EndsRun s l k k')
-
--- a text is written, or stops at a fault
-abbrev pub WritesText : List ℕ → SinkState → SinkState → Result (Unit {0}) Status → Type 0
-WritesText text k k' result =
-    MatchResult result (λ _. Wrote k k' text) (λ ended. (ended ≡ status.WriteFault) × ((n : ℕ) × StoppedAt k k' text n))
+abbrev pub Runs : Option Machine → Option Machine → Line → SinkState → SinkState → Result (Unit {0}) Status → Type 0
+Runs old new l k k' result = (m : Script) → HasLed old m → MatchResult result (λ _. RanOn new m l k k') (EndsRun m l k k')
 
 -- a refusal is written, or stops at a fault
 abbrev pub Refuses : ℕ → ℕ → SinkState → SinkState → Status → Type 0
@@ -56,79 +58,115 @@ Refuses n c k k' status.WriteFault = (m : ℕ) × StoppedAt k k' (not_a_command_
 Refuses n c k k' _ = ⊥
 
 -- how a line ends a run, as it was read
-abbrev pub EndsAt : Session → Result Line Refused → SinkState → SinkState → Status → Type 0
-EndsAt s (Err e) k k' status = Refuses s.number e.column k k' status
-EndsAt s (Ok l) k k' status = EndsRun s l k k' status
+abbrev pub EndsAt : Place → Result Line Refused → SinkState → SinkState → Status → Type 0
+EndsAt p (Err e) k k' status = Refuses p.number e.column k k' status
+EndsAt p (Ok l) k k' status = EndsRun p.script l k k' status
 
 -- the bytes of a line are read and run
 abbrev pub RunsLine : Session → Session → List ℕ → SinkState → SinkState → Result (Unit {0}) Status → Type 0
 RunsLine s s' bytes k k' result =
-    MatchResult result
-    (λ _. (l : Line) × (line_by built (is_fresh s) bytes ≡ Ok l) × (s' ≡ after_line s l) × Wrote k k' (line_text s l))
-    (EndsAt s (line_by built (is_fresh s) bytes) k k')
+    (p : Place) → StandsAt s p
+    → MatchResult result
+    (λ _. (l : Line) × (line_of (is_fresh p.script) bytes ≡ Ok l) × RanOn s'.machine p.script l k k')
+    (EndsAt p (line_of (is_fresh p.script) bytes) k k')
+
+-- what was run took these bytes of the room
+abbrev pub TakesRoom : Session → Session → ℕ → ℕ → Type 0
+TakesRoom s s' before after = (more : ℕ) → HasRoomFor s.machine (before + more) → HasRoomFor s'.machine (after + more)
 
 -- a test that drops no line that is too long
 abbrev pub KeepsLong : (List ℕ → Bool) → Type 0
 KeepsLong dropped = (l : List ℕ) → 256 < length l → dropped l ≡ false
 
--- the lines at the front were run, and the script stands behind them, whatever comes there
-pub record RanFrom (s : Session) (front written : List ℕ) (s' : Session) : Type 0 where
-  pub prints_on : (dropped : List ℕ → Bool) (rest : List ℕ) → prints s (lines_in dropped (front ++ rest)) ≡ written ++ prints s' (lines_in dropped rest)
-  pub ends_on : (dropped : List ℕ → Bool) (otherwise : Status) (rest : List ℕ)
-      → status_from built otherwise (is_fresh s) s.number (lines_in dropped (front ++ rest)) ≡ status_from built otherwise (is_fresh s') s'.number (lines_in dropped rest)
-  pub numbered : s'.number ≤ s.number + length front
-  pub still_fresh : is_fresh s' ≡ true → (is_fresh s ≡ true) × (written ≡ [])
-      × ((dropped : List ℕ → Bool) (rest : List ℕ) → commands_in built true (lines_in dropped (front ++ rest)) ≡ commands_in built true (lines_in dropped rest))
+-- the lines at the front were run, and the run stands behind them, whatever comes there
+pub record RanFrom (p : Place) (front written : List ℕ) (q : Place) : Type 0 where
+  pub lines : List (List ℕ)
+  pub cut : (dropped : List ℕ → Bool) (rest : List ℕ) → lines_in dropped (front ++ rest) ≡ lines ++ lines_in dropped rest
+  pub prints_on : (ls : List (List ℕ)) (end : Script) (out : List ℕ)
+      → Prints q.script q.number ls end out → Prints p.script p.number (lines ++ ls) end (written ++ out)
+  pub ends_on : (otherwise : Status) (ls : List (List ℕ))
+      → status_from rules otherwise (is_fresh p.script) p.number (lines ++ ls) ≡ status_from rules otherwise (is_fresh q.script) q.number ls
+  pub numbered : q.number ≤ p.number + length front
+  pub still_fresh : is_fresh q.script ≡ true → (is_fresh p.script ≡ true) × (written ≡ [])
+
+-- whatever comes behind these bytes, the next line prints a text, of which a front was written, and then a write failed
+pub record StopsWithin (p : Place) (rest : List ℕ) (k k' : SinkState) : Type 0 where
+  pub text : List ℕ
+  pub n : ℕ
+  pub end : Script
+  pub next : (dropped : List ℕ → Bool) (more : List ℕ) → KeepsLong dropped
+      → (l : List ℕ) × (ls : List (List ℕ)) × (lines_in dropped (rest ++ more) ≡ l ∷ ls) × Prints p.script p.number (l ∷ []) end text
+  pub stopped : StoppedAt k k' text n
+
+-- whatever comes behind these bytes, the next line is `memory`
+pub record StopsAtMemory (rest : List ℕ) : Type 0 where
+  pub l : List ℕ
+  pub words : ℕ
+  pub is_memory : line_of true l ≡ Ok (line.Command (Memory words))
+  pub next : (dropped : List ℕ → Bool) (more : List ℕ) → (ls : List (List ℕ)) × (lines_in dropped (rest ++ more) ≡ l ∷ ls)
+  pub front : List ℕ
+  pub behind : List ℕ
+  pub parts : rest ≡ front ++ behind
+  pub up_to : lines_in is_empty front ≡ l ∷ []
 
 -- the next line ends the run, whatever comes behind these bytes
-abbrev pub StopsAt : Session → List ℕ → SinkState → SinkState → Status → Type 0
-StopsAt s rest k k' (status.NotACommand n c) =
-    Wrote k k' (not_a_command_text n c) × (n ≡ s.number)
+abbrev pub StopsAt : Place → List ℕ → SinkState → SinkState → Status → Type 0
+StopsAt p rest k k' (status.NotACommand n c) =
+    Wrote k k' (not_a_command_text n c) × (n ≡ p.number)
     × ((dropped : List ℕ → Bool) (more : List ℕ) → KeepsLong dropped
-    → (l : List ℕ) × (ls : List (List ℕ)) × (lines_in dropped (rest ++ more) ≡ l ∷ ls) × (line_by built (is_fresh s) l ≡ Err (record { column = c })))
-StopsAt s rest k k' status.WriteFault =
-    (text : List ℕ) × (n : ℕ) × StoppedAt k k' text n
-    × ((dropped : List ℕ → Bool) (more : List ℕ) → KeepsLong dropped → IsPrefix text (prints s (lines_in dropped (rest ++ more))))
-StopsAt s rest k k' status.NoMemory =
-    Wrote k k' [] × (is_fresh s ≡ true)
-    × ((l r : List ℕ) × (words : ℕ) × (rest ≡ l ++ r) × (line_by built true l ≡ Ok (line.Command (Memory words))))
-StopsAt s rest k k' _ = ⊥
+    → (l : List ℕ) × (ls : List (List ℕ)) × (lines_in dropped (rest ++ more) ≡ l ∷ ls) × (line_of (is_fresh p.script) l ≡ Err (record { column = c })))
+StopsAt p rest k k' status.WriteFault = StopsWithin p rest k k'
+StopsAt p rest k k' status.NoMemory = Wrote k k' [] × (is_fresh p.script ≡ true) × StopsAtMemory rest
+StopsAt p rest k k' _ = ⊥
 
 -- some lines at the front of what is held were run, and the next one ends the run
-pub record Stops (s : Session) (held : List ℕ) (k k' : SinkState) (ended : Status) : Type 0 where
+pub record Stops (p : Place) (held : List ℕ) (k k' : SinkState) (ended : Status) : Type 0 where
   pub front : List ℕ
   pub rest : List ℕ
   pub written : List ℕ
-  pub script : Session
+  pub place : Place
   pub sink : SinkState
   pub parts : held ≡ front ++ rest
-  pub ran : RanFrom s front written script
+  pub ran : RanFrom p front written place
   pub wrote : Wrote k sink written
-  pub stops : StopsAt script rest sink k' ended
+  pub stops : StopsAt place rest sink k' ended
 
 -- all whole lines that are held were run
-pub record RanAll (s s' : Session) (held held' : List ℕ) (k k' : SinkState) : Type 0 where
+pub record RanAll (p : Place) (s' : Session) (held held' : List ℕ) (k k' : SinkState) : Type 0 where
   pub front : List ℕ
   pub written : List ℕ
+  pub place : Place
   pub parts : held ≡ front ++ held'
-  pub ran : RanFrom s front written s'
+  pub ran : RanFrom p front written place
+  pub stands : StandsAt s' place
   pub wrote : Wrote k k' written
 
 -- the whole lines that are held are run
 abbrev pub RunsLines : Session → Session → List ℕ → List ℕ → SinkState → SinkState → Result (Unit {0}) Status → Type 0
 RunsLines s s' held held' k k' result =
-    MatchResult result (λ _. RanAll s s' held held' k k' × (next_of false held' ≡ Unknown)) (Stops s held k k')
+    (p : Place) → StandsAt s p → MatchResult result (λ _. RanAll p s' held held' k k') (Stops p held k k')
 
--- the rest of the input, which ends without a line feed, is run
+-- the rest of the input, which ends without a line feed, leads to a text
+abbrev pub RestPrints : Place → List ℕ → List ℕ → Type 0
+RestPrints p rest out = (end : Script) × Prints p.script p.number (lines_in is_empty rest) end out
+
+-- how a run ends by the rest of the input
+abbrev pub EndsRest : Place → List ℕ → SinkState → SinkState → Status → Type 0
+EndsRest p rest k k' status.Ok =
+    ((out : List ℕ) × RestPrints p rest out × Wrote k k' out)
+    × (status_from rules status.Ok (is_fresh p.script) p.number (lines_in is_empty rest) ≡ status.Ok)
+EndsRest p rest k k' (status.NotACommand n c) =
+    ((out : List ℕ) × RestPrints p rest out × Wrote k k' out)
+    × (status_from rules status.Ok (is_fresh p.script) p.number (lines_in is_empty rest) ≡ status.NotACommand n c)
+EndsRest p rest k k' status.WriteFault = (out : List ℕ) × (n : ℕ) × RestPrints p rest out × StoppedAt k k' out n
+EndsRest p rest k k' status.NoMemory =
+    Wrote k k' [] × (is_fresh p.script ≡ true) × (lines_in is_empty rest ≡ rest ∷ [])
+    × ((words : ℕ) × (line_of true rest ≡ Ok (line.Command (Memory words))))
+EndsRest p rest k k' _ = ⊥
+
+-- the rest of the input is run
 abbrev pub RunsRest : Session → List ℕ → SinkState → SinkState → Status → Type 0
-RunsRest s rest k k' status.Ok =
-    Wrote k k' (prints s (lines_in is_empty rest)) × (status_from built status.Ok (is_fresh s) s.number (lines_in is_empty rest) ≡ status.Ok)
-RunsRest s rest k k' (status.NotACommand n c) =
-    Wrote k k' (prints s (lines_in is_empty rest)) × (status_from built status.Ok (is_fresh s) s.number (lines_in is_empty rest) ≡ status.NotACommand n c)
-RunsRest s rest k k' status.WriteFault = (text : List ℕ) × (n : ℕ) × StoppedAt k k' text n × IsPrefix text (prints s (lines_in is_empty rest))
-RunsRest s rest k k' status.NoMemory =
-    Wrote k k' [] × (is_fresh s ≡ true) × ((words : ℕ) × (line_by built true rest ≡ Ok (line.Command (Memory words))))
-RunsRest s rest k k' _ = ⊥
+RunsRest s rest k k' ended = (p : Place) → StandsAt s p → EndsRest p rest k k' ended
 
 -- these bytes are left, if that is told; if not, let there be none
 abbrev pub IsLeft : Option (List ℕ) → List ℕ → Type 0

@@ -1,8 +1,9 @@
 //! Runs the lines of a buffer.
 
-ghost use Rattle.std.specs.Prelude.{◌≡◌, ◌<◌, ◌-◌, ◌+◌, ◌^◌, false, length};
+ghost use Rattle.std.specs.Prelude.{◌≡◌, ◌<◌, ◌-◌, ◌+◌, ◌^◌, false, length, IfOk};
 ghost use Rattle.km_edge.specs.Lines.{Unknown, next_of};
-ghost use Rattle.km_engine.specs.Steps.{RunsLines, RunsRest};
+ghost use Rattle.km_engine.specs.Session.{HasRoomFor};
+ghost use Rattle.km_engine.specs.Steps.{RunsLines, RunsRest, TakesRoom};
 
 use crate::script::{Script, refuse};
 use km_edge::{Cut, Lines, Sink};
@@ -19,8 +20,11 @@ pub fn run_lines<K: Sink>(
     lines: &mut Lines,
     sink: &mut K,
 ) -> Result<(), Status>
-    requires { script.old.number + length lines.old < 2 ^ 64 - 1 }
-    ensures { RunsLines script.old script.new lines.old lines.new (K.state sink.old) (K.state sink.new) result }
+    requires numbered { script.old.number + length lines.old < 2 ^ 64 - 1 }
+    requires room { HasRoomFor script.old.machine (length lines.old) }
+    ensures runs { RunsLines script.old script.new lines.old lines.new (K.state sink.old) (K.state sink.new) result }
+    ensures unknown { IfOk result (λ _. next_of false lines.new ≡ Unknown) }
+    ensures room { IfOk result (λ _. TakesRoom script.old script.new (length lines.old) (length lines.new)) }
 {
     loop {
         let passed = match lines.cut(false) {
@@ -41,6 +45,7 @@ pub fn run_lines<K: Sink>(
 pub fn run_rest<K: Sink>(script: &mut Script, alloc: Global, lines: &Lines, sink: &mut K) -> Status
     requires numbered { script.old.number < 2 ^ 64 - 1 }
     requires rest { next_of false lines.now ≡ Unknown }
+    requires room { HasRoomFor script.old.machine (length lines.now) }
     ensures { RunsRest script.old lines.now (K.state sink.old) (K.state sink.new) result }
 {
     let Cut::Line(line) = lines.cut(true) else {

@@ -1,11 +1,9 @@
 //! The top call.
 
 ghost use Rattle.std.specs.Prelude.{◌≡◌, ◌≢◌, ℕ, List, [], Some};
-ghost use Rattle.km_edge.specs.Streams.{Rose, Wrote};
-ghost use Rattle.km_model.specs.Output.{status_by};
-ghost use Rattle.km_script.specs.Built.{built};
-ghost use Rattle.km_engine.specs.Session.{output_of};
-ghost use Rattle.km_engine.specs.Outcome.{EndsOver};
+ghost use Rattle.km_edge.specs.Streams.{Rose};
+ghost use Rattle.km_engine.specs.Headline.{Headline};
+ghost use Rattle.km_engine.specs.Outcome.{EndsAsTold, EndsOver};
 ghost use Rattle.km_engine.specs.Steps.{RunsScript};
 
 use crate::buffer::{run_lines, run_rest};
@@ -59,11 +57,13 @@ pub fn run<S: Source, K: Sink>(
     ensures ends { words.now ≡ [] → (bytes : List ℕ) → (S.state source.old).left ≡ Some bytes
         → EndsOver bytes (S.state source.old) (S.state source.new) (K.state sink.old) (K.state sink.new) result }
 
-    // Where nothing fails, status and output are functions of the bytes, however they come in pieces.
+    // Where nothing fails, status and output are those of the bytes, however they come in pieces.
     ensures exact { words.now ≡ [] → (bytes : List ℕ) → (S.state source.old).left ≡ Some bytes
         → ¬ (Rose (S.state source.old).faults (S.state source.new).faults) → ¬ (Rose (K.state sink.old).faults (K.state sink.new).faults)
-        → result ≢ Status.NoMemory
-        → (result ≡ status_by built bytes) × Wrote (K.state sink.old) (K.state sink.new) (output_of bytes) }
+        → result ≢ Status.NoMemory → EndsAsTold bytes (K.state sink.old) (K.state sink.new) result }
+
+    // Whatever the lines are: what is listed was not held, and what was forgotten is listed.
+    ensures headline { (lines : List (List ℕ)) → Headline lines }
 {
     if !words.is_empty() {
         return Status::BadWords { word: 1 };

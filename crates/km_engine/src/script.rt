@@ -1,24 +1,24 @@
 //! A script between two lines.
 
-ghost use Rattle.std.specs.Prelude.{◌≡◌, ◌≤◌, ◌<◌, ◌-◌, ◌^◌, [], true, length, IfOk, IfErr, MatchResult};
-ghost use Rattle.km_core.specs.Small.{booted};
-ghost use Rattle.km_engine.specs.Session.{answer_text, command_text, after_command, after_first};
-ghost use Rattle.km_engine.specs.Steps.{IsFit, Refuses, WritesText};
+ghost use Rattle.std.specs.Prelude.{◌≡◌, [], true, is_none, length, IfOk, IfErr};
+ghost use Rattle.km_model.specs.declared.lines.Command.TheVariants.{Memory};
+ghost use Rattle.km_machine.specs.Machines.{For};
+ghost use Rattle.km_engine.specs.Session.{HasRoomToRun, SpendsOn};
+ghost use Rattle.km_engine.specs.Steps.{IsFit, IsFitLine, IsMemory, Refuses, Runs};
 
-use km_base::{Answer, Refusal};
-use km_core::Core;
+use km_machine::Machine;
 use km_edge::{Sink, write_all};
 use km_model::{Command, Line, Status};
-use km_script::read_built_line;
+use km_script::read_line;
 use km_text::Text;
 use std::alloc::Global;
 use std::marker::Model;
 
-/// A script between two lines: the number of the next line, from 1, and the kernel once `memory` was read.
+/// A script between two lines: the number of the next line, from 1, and the machine once `memory` was read.
 #[derive(Drop)]
 pub struct Script {
     number: u64,
-    core: Option<Core>,
+    machine: Option<Machine>,
 }
 
 impl Model for Script {
@@ -26,13 +26,13 @@ impl Model for Script {
 
     ghost Value = { Session };
 
-    ghost view = { λ a. record { number = a.number; kernel = a.core } };
+    ghost view = { λ a. record { number = a.number; machine = a.machine } };
 }
 
 impl Script {
-    ghost use Rattle.std.specs.Prelude.{◌≡◌, ◌<◌, ◌-◌, ◌^◌};
-    ghost use Rattle.km_engine.specs.Session.{start, is_fresh as is_fresh_session};
-    ghost use Rattle.km_engine.specs.Steps.{IsFitLine, Runs, RunsLine};
+    ghost use Rattle.std.specs.Prelude.{◌≡◌, ◌<◌, ◌+◌, ◌-◌, ◌^◌, IfOk, length};
+    ghost use Rattle.km_engine.specs.Session.{HasRoomFor, start, is_fresh as is_fresh_session};
+    ghost use Rattle.km_engine.specs.Steps.{RunsLine, TakesRoom};
 
     /// Before the first line.
     pub fn new() -> Script
@@ -40,7 +40,7 @@ impl Script {
     {
         Script {
             number: 1,
-            core: None,
+            machine: None,
         }
     }
 
@@ -55,99 +55,69 @@ impl Script {
     fn is_fresh(&self) -> bool
         ensures { result ≡ is_fresh_session self.now }
     {
-        self.core.is_none()
+        self.machine.is_none()
     }
 
     /// Reads and runs one line, without its line feed. An `Err` is how the script ends.
     pub fn line<K: Sink>(&mut self, alloc: Global, bytes: &[u8], sink: &mut K) -> Result<(), Status>
-        requires { self.old.number < 2 ^ 64 - 1 }
-        ensures { RunsLine self.old self.new bytes.now (K.state sink.old) (K.state sink.new) result }
+        requires numbered { self.old.number < 2 ^ 64 - 1 }
+        requires room { HasRoomFor self.old.machine (length bytes.now) }
+        ensures runs { RunsLine self.old self.new bytes.now (K.state sink.old) (K.state sink.new) result }
+        ensures room { IfOk result (λ _. TakesRoom self.old self.new (length bytes.now + 1) 0) }
+        ensures number { IfOk result (λ _. self.new.number ≡ self.old.number + 1) }
     {
-        match read_built_line(bytes, self.is_fresh()) {
+        match read_line(bytes, self.is_fresh()) {
             Err(refused) => Err(refuse(self.number, refused.column, sink)),
             Ok(line) => {
-                self.run(alloc, line, sink)?;
+                run(&mut self.machine, alloc, line, sink)?;
                 self.number += 1;
                 Ok(())
             }
         }
     }
+}
 
-    /// Runs a line that was read.
-    fn run<K: Sink>(&mut self, alloc: Global, line: Line, sink: &mut K) -> Result<(), Status>
-        requires { IsFitLine (is_fresh_session self.old) line }
-        ensures { Runs self.old self.new line (K.state sink.old) (K.state sink.new) result }
-    {
-        let Line::Command(command) = line else {
-            return Ok(());
-        };
-        match &mut self.core {
-            None => {
-                self.core = Some(boot(alloc, command)?);
-                Ok(())
-            }
-            Some(core) => run_command(core, command, sink),
+/// Runs a line that was read.
+fn run<K: Sink>(
+    machine: &mut Option<Machine>,
+    alloc: Global,
+    line: Line,
+    sink: &mut K,
+) -> Result<(), Status>
+    requires fit { IsFitLine (is_none machine.old) line }
+    requires room { HasRoomToRun machine.old line }
+    ensures runs { Runs machine.old machine.new line (K.state sink.old) (K.state sink.new) result }
+    ensures spent { IfOk result (λ _. SpendsOn machine.old line machine.new) }
+{
+    let Line::Command(command) = line else {
+        return Ok(());
+    };
+    match machine {
+        None => {
+            *machine = Some(boot(alloc, command)?);
+            Ok(())
         }
+        Some(machine) => match machine.line(&command, sink) {
+            Ok(()) => Ok(()),
+            Err(_) => Err(Status::WriteFault),
+        },
     }
 }
 
-/// Makes the kernel that the first command asks for.
-fn boot(alloc: Global, command: Command) -> Result<Core, Status>
+/// Makes the machine that the first command asks for.
+fn boot(alloc: Global, command: Command) -> Result<Machine, Status>
     requires { IsFit true command }
-    ensures ok { IfOk result (λ core. after_first command ≡ Some core) }
-    ensures err { IfErr result (λ status. status ≡ Status.NoMemory) }
+    ensures stands { IfOk result (λ m. For m.core m.words []) }
+    ensures asked { IfOk result (λ m. command ≡ Memory m.core.parts.words) }
+    ensures size { IfOk result (λ m. length m.words ≡ m.core.parts.words) }
+    ensures err { IfErr result (λ status. (status ≡ Status.NoMemory) × IsMemory (Line.Command command)) }
 {
     let Command::Memory(words) = command else {
         unreachable!()
     };
-    match Core::boot(alloc, words) {
-        Ok(core) => Ok(core),
+    match Machine::new(alloc, words) {
+        Ok(machine) => Ok(machine),
         Err(_) => Err(Status::NoMemory),
-    }
-}
-
-/// Runs a command that isn't the first.
-fn run_command<K: Sink>(core: &mut Core, command: Command, sink: &mut K) -> Result<(), Status>
-    ensures after { core.new ≡ after_command core.old command }
-    ensures text { WritesText (command_text core.old command) (K.state sink.old) (K.state sink.new) result }
-{
-    let mut text = Text::new();
-    answer(core, &command, &mut text);
-    match write_all(sink, text.bytes()) {
-        Ok(()) => Ok(()),
-        Err(_) => Err(Status::WriteFault),
-    }
-}
-
-/// Makes a command's event, and the text of its answer. A scan and a read print nothing while the moment is 0.
-fn answer(core: &mut Core, command: &Command, text: &mut Text)
-    requires { text.old ≡ [] }
-    ensures after { core.new ≡ after_command core.old command.now }
-    ensures text { text.new ≡ command_text core.old command.now }
-{
-    match command {
-        Command::Section { name, words } => put_answer(
-            b"section",
-            core.section(*name, *words),
-            text,
-        ),
-        Command::Kmalloc { .. } => put_answer(b"kmalloc", core.kmalloc(), text),
-        Command::Write(None) => km_text::refused(Refusal::Invalid, text),
-        _ => {}
-    }
-}
-
-/// Makes the text of an answer. `word` is the first word of the line.
-fn put_answer(word: &[u8], answer: Answer, text: &mut Text)
-    requires some { 1 ≤ length word.now }
-    requires short { length word.now ≤ 16 }
-    requires empty { text.old ≡ [] }
-    ensures { text.new ≡ answer_text word.now answer }
-{
-    match answer {
-        Answer::At(start) => km_text::at(word, start, text),
-        Answer::Refused(refusal) => km_text::refused(refusal, text),
-        _ => {}
     }
 }
 

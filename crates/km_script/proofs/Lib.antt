@@ -1,5 +1,6 @@
 pub mod Pieces
 pub mod Cuts
 pub mod Prefix
+pub mod Foreign
 pub mod LineLaws
 pub mod RuleLaws

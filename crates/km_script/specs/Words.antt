@@ -1,4 +1,4 @@
-use Rattle.std.specs.Prelude.{ℕ, List, Option, Some, None, codes, option_map}
+use Rattle.std.specs.Prelude.{ℕ, Bool, List, Option, Some, None, codes, option_map, ◌&&◌, not, nat_le}
 use Rattle.std.specs.Borrow.{Bor}
 use Rattle.km_base.specs.declared.acts.FileCmd.{FileCmd}
 use Rattle.km_base.specs.declared.acts.FileCmd.TheVariants.{ScanEvery, Dump}
@@ -21,3 +21,7 @@ number_command word =
       | Some n ↦ option_map ScanEvery (number_within 0 86400 n)
       | None ↦ elim (behind_prefix (codes "dump=") word) [ Some n ↦ option_map Dump (number n) | None ↦ None ]
     ]
+
+-- a byte that ends a word or that no command has
+abbrev pub is_hidden : ℕ → Bool
+is_hidden c = not (nat_le 33 c && nat_le c 126)

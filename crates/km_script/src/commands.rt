@@ -13,7 +13,8 @@ use km_model::{Command, NotACommand};
 
 /// `kmalloc 4096`
 fn kmalloc(words: &mut Words) -> Result<Command, NotACommand>
-    ensures { result ≡ one_word (number_within 4096 4096) words.old.end words.old.pieces (λ size. command.Kmalloc size None) }
+    ensures read { result ≡ one_word (number_within 4096 4096) words.old.end words.old.pieces (λ size. command.Kmalloc size None) }
+    ensures kept { words.new.foreign ≡ words.old.foreign }
 {
     let size = words.only_number_within(4096, 4096)?;
     Ok(Command::Kmalloc { size, reg: None })
@@ -32,7 +33,8 @@ fn built_word(word: &[u8]) -> Option<FileCmd>
 
 /// `write WORD`
 fn write(words: &mut Words) -> Result<Command, NotACommand>
-    ensures { result ≡ one_word any_word words.old.end words.old.pieces (λ word. command.Write (built_file_command word)) }
+    ensures read { result ≡ one_word any_word words.old.end words.old.pieces (λ word. command.Write (built_file_command word)) }
+    ensures kept { words.new.foreign ≡ words.old.foreign }
 {
     let word = words.only_word()?;
     Ok(Command::Write(built_word(word)))
@@ -40,7 +42,8 @@ fn write(words: &mut Words) -> Result<Command, NotACommand>
 
 /// The command that begins with a word, and has these words behind it.
 pub fn read_command(word: Word, words: &mut Words) -> Result<Command, NotACommand>
-    ensures { result ≡ apply_rule built (piece_of word.entry) words.old.end words.old.pieces }
+    ensures read { result ≡ apply_rule built (piece_of word.entry) words.old.end words.old.pieces }
+    ensures kept { words.new.foreign ≡ words.old.foreign }
 {
     if is(word.bytes, b"memory") {
         rows::memory(words)

@@ -1,6 +1,7 @@
 //! Reads a line.
 
 ghost use Rattle.std.specs.Prelude.{◌≡◌, ◌∷◌, option_map, position};
+ghost use Rattle.std.specs.List.{list_any};
 ghost use Rattle.km_model.specs.Grammar.{apply_rule, is_foreign as is_foreign_byte, line_by, line_of, words_read};
 ghost use Rattle.km_script.specs.Built.{built};
 ghost use Rattle.km_script.specs.Tables.{table_of};
@@ -8,25 +9,11 @@ ghost use Rattle.km_script.specs.Words.{piece_of};
 
 use crate::commands::read_command;
 use crate::rules::read_any_command;
-use crate::words::{Word, Words, is_blank};
+use crate::words::{Word, Words, first_foreign};
 use km_model::{Command, Line, NotACommand};
 
 /// The greatest length of a line without its line feed, in bytes.
 const LONGEST_LINE: usize = 256;
-
-/// Whether no command has this byte.
-fn is_foreign(c: u8) -> bool
-    ensures { result ≡ is_foreign_byte c }
-{
-    !is_blank(c) && !(32 <= c && c <= 126)
-}
-
-/// The place of the first byte that no command has.
-fn first_foreign(line: &[u8]) -> Option<usize>
-    ensures { result ≡ position is_foreign_byte line.now }
-{
-    line.iter().position(|c| is_foreign(*c))
-}
 
 /// The commands that a line may be.
 #[derive(Clone, Copy)]
@@ -39,7 +26,8 @@ pub enum Table {
 
 /// The command of a table that begins with a word, and has these words behind it.
 fn read_from(table: Table, word: Word, words: &mut Words) -> Result<Command, NotACommand>
-    ensures { result ≡ apply_rule (table_of table) (piece_of word.entry) words.old.end words.old.pieces }
+    ensures read { result ≡ apply_rule (table_of table) (piece_of word.entry) words.old.end words.old.pieces }
+    ensures kept { words.new.foreign ≡ words.old.foreign }
 {
     match table {
         Table::Built => read_command(word, words),
@@ -49,7 +37,8 @@ fn read_from(table: Table, word: Word, words: &mut Words) -> Result<Command, Not
 
 /// Reads the words of a line, from its first word on.
 fn read_words(table: Table, word: Word, words: &mut Words, first: bool) -> Result<Line, NotACommand>
-    ensures { result ≡ words_read (table_of table) first words.old.end (piece_of word.entry ∷ words.old.pieces) }
+    ensures read { result ≡ words_read (table_of table) first words.old.end (piece_of word.entry ∷ words.old.pieces) }
+    ensures kept { words.new.foreign ≡ words.old.foreign }
 {
     let is_memory = word.bytes == b"memory".as_slice();
     if is_memory != first {
@@ -57,6 +46,18 @@ fn read_words(table: Table, word: Word, words: &mut Words, first: bool) -> Resul
     }
     let command = read_from(table, word, words)?;
     Ok(Line::Command(command))
+}
+
+/// The place of the first byte that no command has, in a line that is known to have one or none.
+fn foreign_place(bytes: &[u8], has_foreign: bool) -> Option<usize>
+    requires { has_foreign ≡ list_any is_foreign_byte bytes.now }
+    ensures { result ≡ position is_foreign_byte bytes.now }
+{
+    if has_foreign {
+        first_foreign(bytes)
+    } else {
+        None
+    }
 }
 
 /// Reads a line by a table of commands.
@@ -73,12 +74,13 @@ fn read_by(table: Table, bytes: &[u8], first: bool) -> Result<Line, NotACommand>
     if word.begins_comment() {
         return Ok(Line::Blank);
     }
-    if let Some(place) = first_foreign(bytes) {
+    let read = read_words(table, word, &mut words, first);
+    if let Some(place) = foreign_place(bytes, words.foreign()) {
         return Err(NotACommand {
             column: place as u32 + 1,
         });
     }
-    read_words(table, word, &mut words, first)
+    read
 }
 
 /// Reads a line without its line feed; `first` says that no command was read before.

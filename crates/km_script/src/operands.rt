@@ -2,8 +2,10 @@
 
 ghost use Rattle.std.specs.Prelude.{◌≡◌, ◌==◌, ◌≤◌, ◌<◌, ◌+◌, Some, None, MatchOption, length, position};
 ghost use Rattle.km_base.specs.Names.{name_of};
-ghost use Rattle.km_model.specs.Grammar.{base_of as base_of_word, operand as operand_of_word, reg_name, register_of as register_of_word, register_suffix};
+ghost use Rattle.km_model.specs.Grammar.{base_of, number as number_of, operand as operand_of_word, reg_name, register_of as register_of_word, register_suffix, with_plus};
+ghost use Rattle.km_model.specs.declared.lines.Base.TheVariants as base;
 ghost use Rattle.km_model.specs.Pieces.{behind_first, up_to};
+ghost use Rattle.km_script.specs.Roles.{base_in, suffix_role};
 
 use crate::numbers::number;
 use crate::words::is;
@@ -60,32 +62,76 @@ pub fn register_of(word: &[u8]) -> Option<RegName>
     task_register(task, suffix)
 }
 
-/// A base: a number, a register, `TASK.stack`, or a section's name.
-pub fn base_of(word: &[u8]) -> Option<Base>
-    ensures { result ≡ base_of_word word.now }
-{
-    if let Some(n) = number(word) {
-        return Some(Base::Number(n));
-    }
-    let Some((task, suffix)) = cut(b'.', word) else {
-        return Name::read(word).map(Base::Section);
-    };
-    if is(suffix, b"stack") {
-        return Name::read(task).map(Base::Stack);
-    }
-    let RegName { task, reg } = task_register(task, suffix)?;
-    Some(Base::Reg { task, reg })
+/// What a name stands for in an operand.
+#[derive(Clone, Copy)]
+enum Role {
+    Section,
+    Stack,
+    Reg(Reg),
 }
 
-/// An operand: a base, or a base, `+` and a number.
+/// What a task's name stands for before `.` and this.
+fn role_behind(suffix: &[u8]) -> Option<Role>
+    ensures { result ≡ suffix_role suffix.now }
+{
+    if is(suffix, b"stack") {
+        return Some(Role::Stack);
+    }
+    let reg = reg(suffix)?;
+    Some(Role::Reg(reg))
+}
+
+/// A base with a name.
+fn base_with(name: Name, role: Role) -> Base
+    ensures { result ≡ base_in role name }
+{
+    match role {
+        Role::Section => Base::Section(name),
+        Role::Stack => Base::Stack(name),
+        Role::Reg(reg) => Base::Reg { task: name, reg },
+    }
+}
+
+/// An operand whose base is a number.
+#[inline(never)]
+fn number_operand(n: u64, plus: u64) -> Option<Operand>
+    ensures { result ≡ with_plus (Some (base.Number n)) (Some plus) }
+{
+    Some(Operand {
+        base: Base::Number(n),
+        plus,
+    })
+}
+
+/// An operand whose base has a name.
+#[inline(never)]
+fn named_operand(word: &[u8], plus: u64) -> Option<Operand>
+    requires { number_of word.now ≡ None }
+    ensures { result ≡ with_plus (base_of word.now) (Some plus) }
+{
+    let (name, role) = match cut(b'.', word) {
+        Some((task, suffix)) => (task, role_behind(suffix)?),
+        None => (word, Role::Section),
+    };
+    let name = Name::read(name)?;
+    Some(Operand {
+        base: base_with(name, role),
+        plus,
+    })
+}
+
+/// An operand: a base, or a base, `+` and a number. A base is a number, a register, `TASK.stack`, or a section's name.
+///
+/// The two kinds stay functions of their own, since an operand that is put together from both is copied in small pieces.
 pub fn operand(word: &[u8]) -> Option<Operand>
     ensures { result ≡ operand_of_word word.now }
 {
-    let Some((base, plus)) = cut(b'+', word) else {
-        let base = base_of(word)?;
-        return Some(Operand { base, plus: 0 });
+    let (front, plus) = match cut(b'+', word) {
+        Some((front, digits)) => (front, number(digits)?),
+        None => (word, 0),
     };
-    let base = base_of(base)?;
-    let plus = number(plus)?;
-    Some(Operand { base, plus })
+    match number(front) {
+        Some(n) => number_operand(n, plus),
+        None => named_operand(front, plus),
+    }
 }

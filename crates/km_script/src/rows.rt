@@ -17,7 +17,8 @@ const MOST_STEPS: u64 = 1_000_000;
 
 /// `memory W`
 pub fn memory(words: &mut Words) -> Result<Command, NotACommand>
-    ensures { result ≡ one_word memory_size words.old.end words.old.pieces command.Memory }
+    ensures read { result ≡ one_word memory_size words.old.end words.old.pieces command.Memory }
+    ensures kept { words.new.foreign ≡ words.old.foreign }
 {
     let size = words.only_memory_size()?;
     Ok(Command::Memory(size))
@@ -25,7 +26,8 @@ pub fn memory(words: &mut Words) -> Result<Command, NotACommand>
 
 /// `section NAME W`
 pub fn section(words: &mut Words) -> Result<Command, NotACommand>
-    ensures { result ≡ two_words name_of number words.old.end words.old.pieces command.Section }
+    ensures read { result ≡ two_words name_of number words.old.end words.old.pieces command.Section }
+    ensures kept { words.new.foreign ≡ words.old.foreign }
 {
     let name = words.name()?;
     let size = words.only_number()?;
@@ -34,7 +36,8 @@ pub fn section(words: &mut Words) -> Result<Command, NotACommand>
 
 /// `task NAME`
 pub fn task(words: &mut Words) -> Result<Command, NotACommand>
-    ensures { result ≡ one_word name_of words.old.end words.old.pieces command.Task }
+    ensures read { result ≡ one_word name_of words.old.end words.old.pieces command.Task }
+    ensures kept { words.new.foreign ≡ words.old.foreign }
 {
     let name = words.only_name()?;
     Ok(Command::Task(name))
@@ -42,7 +45,8 @@ pub fn task(words: &mut Words) -> Result<Command, NotACommand>
 
 /// `exit NAME`
 pub fn exit(words: &mut Words) -> Result<Command, NotACommand>
-    ensures { result ≡ one_word name_of words.old.end words.old.pieces command.Exit }
+    ensures read { result ≡ one_word name_of words.old.end words.old.pieces command.Exit }
+    ensures kept { words.new.foreign ≡ words.old.foreign }
 {
     let name = words.only_name()?;
     Ok(Command::Exit(name))
@@ -50,7 +54,8 @@ pub fn exit(words: &mut Words) -> Result<Command, NotACommand>
 
 /// `set REG VAL`
 pub fn set(words: &mut Words) -> Result<Command, NotACommand>
-    ensures { result ≡ two_words register_of operand words.old.end words.old.pieces command.Set }
+    ensures read { result ≡ two_words register_of operand words.old.end words.old.pieces command.Set }
+    ensures kept { words.new.foreign ≡ words.old.foreign }
 {
     let reg = words.register()?;
     let value = words.only_operand()?;
@@ -59,7 +64,8 @@ pub fn set(words: &mut Words) -> Result<Command, NotACommand>
 
 /// `load REG ADDR`
 pub fn load(words: &mut Words) -> Result<Command, NotACommand>
-    ensures { result ≡ two_words register_of operand words.old.end words.old.pieces command.Load }
+    ensures read { result ≡ two_words register_of operand words.old.end words.old.pieces command.Load }
+    ensures kept { words.new.foreign ≡ words.old.foreign }
 {
     let reg = words.register()?;
     let addr = words.only_operand()?;
@@ -68,7 +74,8 @@ pub fn load(words: &mut Words) -> Result<Command, NotACommand>
 
 /// `store ADDR VAL`
 pub fn store(words: &mut Words) -> Result<Command, NotACommand>
-    ensures { result ≡ two_words operand operand words.old.end words.old.pieces command.Store }
+    ensures read { result ≡ two_words operand operand words.old.end words.old.pieces command.Store }
+    ensures kept { words.new.foreign ≡ words.old.foreign }
 {
     let addr = words.operand()?;
     let value = words.only_operand()?;
@@ -77,7 +84,8 @@ pub fn store(words: &mut Words) -> Result<Command, NotACommand>
 
 /// `erase ADDR`
 pub fn erase(words: &mut Words) -> Result<Command, NotACommand>
-    ensures { result ≡ one_word operand words.old.end words.old.pieces command.Erase }
+    ensures read { result ≡ one_word operand words.old.end words.old.pieces command.Erase }
+    ensures kept { words.new.foreign ≡ words.old.foreign }
 {
     let addr = words.only_operand()?;
     Ok(Command::Erase(addr))
@@ -85,7 +93,8 @@ pub fn erase(words: &mut Words) -> Result<Command, NotACommand>
 
 /// `print VAL`
 pub fn print(words: &mut Words) -> Result<Command, NotACommand>
-    ensures { result ≡ one_word operand words.old.end words.old.pieces command.Print }
+    ensures read { result ≡ one_word operand words.old.end words.old.pieces command.Print }
+    ensures kept { words.new.foreign ≡ words.old.foreign }
 {
     let value = words.only_operand()?;
     Ok(Command::Print(value))
@@ -93,7 +102,8 @@ pub fn print(words: &mut Words) -> Result<Command, NotACommand>
 
 /// `kmalloc SIZE [REG]`
 pub fn kmalloc(words: &mut Words) -> Result<Command, NotACommand>
-    ensures { result ≡ allocation words.old.end words.old.pieces command.Kmalloc }
+    ensures read { result ≡ allocation words.old.end words.old.pieces command.Kmalloc }
+    ensures kept { words.new.foreign ≡ words.old.foreign }
 {
     let size = words.number()?;
     let reg = words.register_or_none()?;
@@ -102,7 +112,8 @@ pub fn kmalloc(words: &mut Words) -> Result<Command, NotACommand>
 
 /// `kzalloc SIZE [REG]`
 pub fn kzalloc(words: &mut Words) -> Result<Command, NotACommand>
-    ensures { result ≡ allocation words.old.end words.old.pieces command.Kzalloc }
+    ensures read { result ≡ allocation words.old.end words.old.pieces command.Kzalloc }
+    ensures kept { words.new.foreign ≡ words.old.foreign }
 {
     let size = words.number()?;
     let reg = words.register_or_none()?;
@@ -111,7 +122,8 @@ pub fn kzalloc(words: &mut Words) -> Result<Command, NotACommand>
 
 /// `kfree ADDR`
 pub fn kfree(words: &mut Words) -> Result<Command, NotACommand>
-    ensures { result ≡ one_word operand words.old.end words.old.pieces command.Kfree }
+    ensures read { result ≡ one_word operand words.old.end words.old.pieces command.Kfree }
+    ensures kept { words.new.foreign ≡ words.old.foreign }
 {
     let addr = words.only_operand()?;
     Ok(Command::Kfree(addr))
@@ -119,7 +131,8 @@ pub fn kfree(words: &mut Words) -> Result<Command, NotACommand>
 
 /// `pages N [REG]`
 pub fn pages(words: &mut Words) -> Result<Command, NotACommand>
-    ensures { result ≡ allocation words.old.end words.old.pieces command.Pages }
+    ensures read { result ≡ allocation words.old.end words.old.pieces command.Pages }
+    ensures kept { words.new.foreign ≡ words.old.foreign }
 {
     let size = words.number()?;
     let reg = words.register_or_none()?;
@@ -128,7 +141,8 @@ pub fn pages(words: &mut Words) -> Result<Command, NotACommand>
 
 /// `freepages ADDR`
 pub fn freepages(words: &mut Words) -> Result<Command, NotACommand>
-    ensures { result ≡ one_word operand words.old.end words.old.pieces command.FreePages }
+    ensures read { result ≡ one_word operand words.old.end words.old.pieces command.FreePages }
+    ensures kept { words.new.foreign ≡ words.old.foreign }
 {
     let addr = words.only_operand()?;
     Ok(Command::FreePages(addr))
@@ -136,7 +150,8 @@ pub fn freepages(words: &mut Words) -> Result<Command, NotACommand>
 
 /// `vmalloc SIZE [REG]`
 pub fn vmalloc(words: &mut Words) -> Result<Command, NotACommand>
-    ensures { result ≡ allocation words.old.end words.old.pieces command.Vmalloc }
+    ensures read { result ≡ allocation words.old.end words.old.pieces command.Vmalloc }
+    ensures kept { words.new.foreign ≡ words.old.foreign }
 {
     let size = words.number()?;
     let reg = words.register_or_none()?;
@@ -145,7 +160,8 @@ pub fn vmalloc(words: &mut Words) -> Result<Command, NotACommand>
 
 /// `vfree ADDR`
 pub fn vfree(words: &mut Words) -> Result<Command, NotACommand>
-    ensures { result ≡ one_word operand words.old.end words.old.pieces command.Vfree }
+    ensures read { result ≡ one_word operand words.old.end words.old.pieces command.Vfree }
+    ensures kept { words.new.foreign ≡ words.old.foreign }
 {
     let addr = words.only_operand()?;
     Ok(Command::Vfree(addr))
@@ -153,7 +169,8 @@ pub fn vfree(words: &mut Words) -> Result<Command, NotACommand>
 
 /// `bootmem SIZE [REG]`
 pub fn bootmem(words: &mut Words) -> Result<Command, NotACommand>
-    ensures { result ≡ allocation words.old.end words.old.pieces command.BootMem }
+    ensures read { result ≡ allocation words.old.end words.old.pieces command.BootMem }
+    ensures kept { words.new.foreign ≡ words.old.foreign }
 {
     let size = words.number()?;
     let reg = words.register_or_none()?;
@@ -162,7 +179,8 @@ pub fn bootmem(words: &mut Words) -> Result<Command, NotACommand>
 
 /// `free_part ADDR SIZE`
 pub fn free_part(words: &mut Words) -> Result<Command, NotACommand>
-    ensures { result ≡ two_words operand number words.old.end words.old.pieces command.FreePart }
+    ensures read { result ≡ two_words operand number words.old.end words.old.pieces command.FreePart }
+    ensures kept { words.new.foreign ≡ words.old.foreign }
 {
     let addr = words.operand()?;
     let size = words.only_number()?;
@@ -171,7 +189,8 @@ pub fn free_part(words: &mut Words) -> Result<Command, NotACommand>
 
 /// `not_leak ADDR`
 pub fn not_leak(words: &mut Words) -> Result<Command, NotACommand>
-    ensures { result ≡ one_word operand words.old.end words.old.pieces command.NotLeak }
+    ensures read { result ≡ one_word operand words.old.end words.old.pieces command.NotLeak }
+    ensures kept { words.new.foreign ≡ words.old.foreign }
 {
     let addr = words.only_operand()?;
     Ok(Command::NotLeak(addr))
@@ -179,7 +198,8 @@ pub fn not_leak(words: &mut Words) -> Result<Command, NotACommand>
 
 /// `ignore ADDR`
 pub fn ignore(words: &mut Words) -> Result<Command, NotACommand>
-    ensures { result ≡ one_word operand words.old.end words.old.pieces command.Ignore }
+    ensures read { result ≡ one_word operand words.old.end words.old.pieces command.Ignore }
+    ensures kept { words.new.foreign ≡ words.old.foreign }
 {
     let addr = words.only_operand()?;
     Ok(Command::Ignore(addr))
@@ -187,7 +207,8 @@ pub fn ignore(words: &mut Words) -> Result<Command, NotACommand>
 
 /// `no_scan ADDR`
 pub fn no_scan(words: &mut Words) -> Result<Command, NotACommand>
-    ensures { result ≡ one_word operand words.old.end words.old.pieces command.NoScan }
+    ensures read { result ≡ one_word operand words.old.end words.old.pieces command.NoScan }
+    ensures kept { words.new.foreign ≡ words.old.foreign }
 {
     let addr = words.only_operand()?;
     Ok(Command::NoScan(addr))
@@ -195,7 +216,8 @@ pub fn no_scan(words: &mut Words) -> Result<Command, NotACommand>
 
 /// `scan_area ADDR SIZE`
 pub fn scan_area(words: &mut Words) -> Result<Command, NotACommand>
-    ensures { result ≡ two_words operand number words.old.end words.old.pieces command.ScanArea }
+    ensures read { result ≡ two_words operand number words.old.end words.old.pieces command.ScanArea }
+    ensures kept { words.new.foreign ≡ words.old.foreign }
 {
     let addr = words.operand()?;
     let size = words.only_number()?;
@@ -204,7 +226,8 @@ pub fn scan_area(words: &mut Words) -> Result<Command, NotACommand>
 
 /// `transient_leak ADDR`
 pub fn transient_leak(words: &mut Words) -> Result<Command, NotACommand>
-    ensures { result ≡ one_word operand words.old.end words.old.pieces command.TransientLeak }
+    ensures read { result ≡ one_word operand words.old.end words.old.pieces command.TransientLeak }
+    ensures kept { words.new.foreign ≡ words.old.foreign }
 {
     let addr = words.only_operand()?;
     Ok(Command::TransientLeak(addr))
@@ -212,7 +235,8 @@ pub fn transient_leak(words: &mut Words) -> Result<Command, NotACommand>
 
 /// `write WORD`, with any word
 pub fn write(words: &mut Words) -> Result<Command, NotACommand>
-    ensures { result ≡ one_word any_word words.old.end words.old.pieces (λ word. command.Write (file_command_of word)) }
+    ensures read { result ≡ one_word any_word words.old.end words.old.pieces (λ word. command.Write (file_command_of word)) }
+    ensures kept { words.new.foreign ≡ words.old.foreign }
 {
     let word = words.only_word()?;
     Ok(Command::Write(file_command(word)))
@@ -220,7 +244,8 @@ pub fn write(words: &mut Words) -> Result<Command, NotACommand>
 
 /// `read`
 pub fn read(words: &mut Words) -> Result<Command, NotACommand>
-    ensures { result ≡ alone command.Read words.old.end words.old.pieces }
+    ensures read { result ≡ alone command.Read words.old.end words.old.pieces }
+    ensures kept { words.new.foreign ≡ words.old.foreign }
 {
     words.none_left()?;
     Ok(Command::Read)
@@ -228,7 +253,8 @@ pub fn read(words: &mut Words) -> Result<Command, NotACommand>
 
 /// `tick N`
 pub fn tick(words: &mut Words) -> Result<Command, NotACommand>
-    ensures { result ≡ one_word (number_within 0 3600000) words.old.end words.old.pieces command.Tick }
+    ensures read { result ≡ one_word (number_within 0 3600000) words.old.end words.old.pieces command.Tick }
+    ensures kept { words.new.foreign ≡ words.old.foreign }
 {
     let time = words.only_number_within(0, LONGEST_TICK)?;
     Ok(Command::Tick(time))
@@ -236,7 +262,8 @@ pub fn tick(words: &mut Words) -> Result<Command, NotACommand>
 
 /// `begin`
 pub fn begin(words: &mut Words) -> Result<Command, NotACommand>
-    ensures { result ≡ alone command.Begin words.old.end words.old.pieces }
+    ensures read { result ≡ alone command.Begin words.old.end words.old.pieces }
+    ensures kept { words.new.foreign ≡ words.old.foreign }
 {
     words.none_left()?;
     Ok(Command::Begin)
@@ -244,7 +271,8 @@ pub fn begin(words: &mut Words) -> Result<Command, NotACommand>
 
 /// `step N`
 pub fn step(words: &mut Words) -> Result<Command, NotACommand>
-    ensures { result ≡ one_word (number_within 1 1000000) words.old.end words.old.pieces command.Step }
+    ensures read { result ≡ one_word (number_within 1 1000000) words.old.end words.old.pieces command.Step }
+    ensures kept { words.new.foreign ≡ words.old.foreign }
 {
     let count = words.only_number_within(1, MOST_STEPS)?;
     Ok(Command::Step(count))
@@ -252,7 +280,8 @@ pub fn step(words: &mut Words) -> Result<Command, NotACommand>
 
 /// `finish`
 pub fn finish(words: &mut Words) -> Result<Command, NotACommand>
-    ensures { result ≡ alone command.Finish words.old.end words.old.pieces }
+    ensures read { result ≡ alone command.Finish words.old.end words.old.pieces }
+    ensures kept { words.new.foreign ≡ words.old.foreign }
 {
     words.none_left()?;
     Ok(Command::Finish)

@@ -12,7 +12,8 @@ use km_model::{Command, NotACommand};
 
 /// The command that begins with a keyword, and has these words behind it.
 fn read_by(keyword: Keyword, words: &mut Words) -> Result<Command, NotACommand>
-    ensures { result ≡ read_as keyword words.old.end words.old.pieces }
+    ensures read { result ≡ read_as keyword words.old.end words.old.pieces }
+    ensures kept { words.new.foreign ≡ words.old.foreign }
 {
     match keyword {
         Keyword::Memory => rows::memory(words),
@@ -49,7 +50,8 @@ fn read_by(keyword: Keyword, words: &mut Words) -> Result<Command, NotACommand>
 
 /// The command that begins with a word, and has these words behind it.
 pub fn read_any_command(word: Word, words: &mut Words) -> Result<Command, NotACommand>
-    ensures { result ≡ apply_rule rules (piece_of word.entry) words.old.end words.old.pieces }
+    ensures read { result ≡ apply_rule rules (piece_of word.entry) words.old.end words.old.pieces }
+    ensures kept { words.new.foreign ≡ words.old.foreign }
 {
     match Keyword::of(word.bytes) {
         Some(keyword) => read_by(keyword, words),

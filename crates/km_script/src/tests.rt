@@ -188,6 +188,98 @@ fn lines_are_refused_at_the_word_that_does_not_fit(rt: HostRuntime) {
 }
 
 #[test]
+fn lines_with_a_word_too_few_or_too_many_or_of_another_form_are_refused(rt: HostRuntime) {
+    for (line, column) in [
+        ("memory x", 8),
+        ("memory 511", 8),
+        ("memory 512 x", 12),
+        ("section", 8),
+        ("section a x", 11),
+        ("section a 1 1", 13),
+        ("task 1a", 6),
+        ("task a b", 8),
+        ("exit", 5),
+        ("exit A", 6),
+        ("exit a b", 8),
+        ("set", 4),
+        ("set t.r1 1.", 10),
+        ("set t.r1 1 1", 12),
+        ("load", 5),
+        ("load t.r1", 10),
+        ("load t.r1 T", 11),
+        ("load t.r1 1 1", 13),
+        ("store", 6),
+        ("store 1", 8),
+        ("store 1 1 1", 11),
+        ("erase", 6),
+        ("erase 1 1", 9),
+        ("print", 6),
+        ("print 1 1", 9),
+    ] {
+        assert_eq!(rt; command(line), Err(NotACommand { column }), "{line}");
+    }
+    for (line, column) in [
+        ("kmalloc a", 9),
+        ("kzalloc", 8),
+        ("kzalloc t.r0", 9),
+        ("kzalloc 8 t", 11),
+        ("kzalloc 8 t.r0 x", 16),
+        ("pages", 6),
+        ("pages 8 t.r4", 9),
+        ("pages 8 t.r0 x", 14),
+        ("vmalloc", 8),
+        ("vmalloc -1", 9),
+        ("vmalloc 8 .r0", 11),
+        ("vmalloc 8 t.r0 x", 16),
+        ("bootmem", 8),
+        ("bootmem 1+1", 9),
+        ("bootmem 8 t.stack", 11),
+        ("bootmem 8 t.r0 x", 16),
+        ("free_part", 10),
+        ("free_part 1+ 1", 11),
+        ("free_part 1 t", 13),
+        ("free_part 1 1 1", 15),
+        ("scan_area", 10),
+        ("scan_area 1", 12),
+        ("scan_area t.r 1", 11),
+        ("scan_area 1 1 1", 15),
+    ] {
+        assert_eq!(rt; command(line), Err(NotACommand { column }), "{line}");
+    }
+    for (line, column) in [
+        ("kfree", 6),
+        ("kfree t.r0.r0", 7),
+        ("kfree 1 1", 9),
+        ("freepages", 10),
+        ("freepages 1++1", 11),
+        ("freepages 1 1", 13),
+        ("vfree", 6),
+        ("vfree .", 7),
+        ("vfree 1 1", 9),
+        ("not_leak", 9),
+        ("not_leak t.stack+", 10),
+        ("not_leak 1 1", 12),
+        ("ignore", 7),
+        ("ignore t.stac", 8),
+        ("ignore 1 1", 10),
+        ("no_scan", 8),
+        ("no_scan _", 9),
+        ("no_scan 1 1", 11),
+        ("transient_leak", 15),
+        ("transient_leak 1 1", 18),
+        ("transient_leak +", 16),
+        ("tick", 5),
+        ("tick t", 6),
+        ("tick 1 1", 8),
+        ("step", 5),
+        ("step t", 6),
+        ("step 1 1", 8),
+    ] {
+        assert_eq!(rt; command(line), Err(NotACommand { column }), "{line}");
+    }
+}
+
+#[test]
 fn lines_are_blank_or_comments_or_refused_by_their_bytes(rt: HostRuntime) {
     let mut comment = [b'x'; 257];
     comment[3] = b'#';
@@ -224,6 +316,16 @@ fn lines_are_blank_or_comments_or_refused_by_their_bytes(rt: HostRuntime) {
             Err(NotACommand { column: 9 }),
         ),
         (b"\x80".as_slice(), true, Err(NotACommand { column: 1 })),
+        (
+            b"read \x0b# x".as_slice(),
+            false,
+            Err(NotACommand { column: 6 }),
+        ),
+        (
+            b"kmaloc 8 9 1\x00 \x7f".as_slice(),
+            false,
+            Err(NotACommand { column: 13 }),
+        ),
     ] {
         assert_eq!(rt; read_line(line, first), want);
     }

@@ -1,6 +1,6 @@
 //! Pieces, faults and words.
 
-use crate::run::{calls, run_in_pieces};
+use crate::run::{calls, run_in_pieces, run_whole};
 use km_edge::{CountSink, MemSink, MemSource};
 use km_engine::{Status, run};
 use std::test::Fail;
@@ -46,6 +46,25 @@ fn a_full_sink_holds_the_first_bytes(rt: HostRuntime) -> Result<(), Fail> {
     let report = run_in_pieces(rt.alloc(), SCRIPT, 4096, 0, TEXT.len())?;
     assert_eq!(rt; report.status, Status::Ok);
     assert_eq!(rt; report.text.as_slice(), TEXT);
+    Ok(())
+}
+
+#[test]
+fn a_full_sink_holds_the_front_of_a_listing(rt: HostRuntime) -> Result<(), Fail> {
+    let script = b"memory 512\ntask t\nmemory 512\n";
+    let listed = b"memory 4096\nkmalloc 64\ntick 1000\nwrite scan\nwrite scan\nread\nprint 7\n";
+    for script in [script.as_slice(), listed.as_slice()] {
+        let whole = run_whole(rt.alloc(), script)?;
+        for room in 0..whole.text.len() {
+            let report = run_in_pieces(rt.alloc(), script, 16, 0, room)?;
+            assert_eq!(rt; report.status, Status::WriteFault, "with room {room}");
+            assert_eq!(rt;
+                report.text.as_slice(),
+                &whole.text[..room],
+                "with room {room}"
+            );
+        }
+    }
     Ok(())
 }
 

@@ -10,6 +10,8 @@ mod lines;
 #[cfg(test)]
 mod run;
 #[cfg(test)]
+mod scripts;
+#[cfg(test)]
 mod sizes;
 #[cfg(test)]
 mod standard;

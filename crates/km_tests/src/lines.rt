@@ -24,7 +24,7 @@ fn first_scripts_give_their_reports(rt: HostRuntime) -> Result<(), Fail> {
 
 #[test]
 fn lines_are_refused_at_their_columns(rt: HostRuntime) -> Result<(), Fail> {
-    let rows: [(&[u8], u32, &[u8]); 17] = [
+    let rows: [(&[u8], u32, &[u8]); 18] = [
         (b"kmalloc", 8, b"not a command: line 2, column 8\n"),
         (b"kmalloc 4096 9", 14, b"not a command: line 2, column 14\n"),
         (
@@ -37,10 +37,11 @@ fn lines_are_refused_at_their_columns(rt: HostRuntime) -> Result<(), Fail> {
             9,
             b"not a command: line 2, column 9\n",
         ),
-        (b"kmalloc 8", 9, b"not a command: line 2, column 9\n"),
+        (b"kmalloc 8 t.r4", 11, b"not a command: line 2, column 11\n"),
         (b"memory 1024", 1, b"not a command: line 2, column 1\n"),
         (b"kmaloc 4096", 1, b"not a command: line 2, column 1\n"),
-        (b"tick 1000", 1, b"not a command: line 2, column 1\n"),
+        (b"tick 3600001", 6, b"not a command: line 2, column 6\n"),
+        (b"step 1000001", 6, b"not a command: line 2, column 6\n"),
         (b" \tkmalloc 0x", 11, b"not a command: line 2, column 11\n"),
         (b"section data", 13, b"not a command: line 2, column 13\n"),
         (b"section 1data 8", 9, b"not a command: line 2, column 9\n"),
@@ -75,13 +76,16 @@ fn lines_are_refused_at_their_columns(rt: HostRuntime) -> Result<(), Fail> {
 
 #[test]
 fn lines_of_other_forms_are_accepted(rt: HostRuntime) -> Result<(), Fail> {
-    let rows: [(&[u8], &[u8]); 8] = [
+    let rows: [(&[u8], &[u8]); 11] = [
         (b"  kmalloc\t0x1000\r", b"kmalloc 0xffff888000001000\n"),
         (b"kmalloc 0004096", b"kmalloc 0xffff888000001000\n"),
         (b"section abcdefghijklmnop 512", b""),
         (b"# \x00 \x80 any bytes", b""),
         (b" \t\r ", b""),
-        (b"write off", b"refused: invalid\n"),
+        (b"write 8", b"refused: invalid\n"),
+        (b"write off", b""),
+        (b"tick 3600000", b""),
+        (b"step 1000000", b"refused: no scan running\n"),
         (b"write scan", b""),
         (b"read", b""),
     ];

@@ -3,8 +3,12 @@
 
 use km_edge::{StdSink, StdSource};
 use km_engine::{Status, run};
+use std::io::{BufWriter, ErrorKind};
 use std::process::ExitCode;
 use std::{env, io};
+
+/// The bytes of output that are kept back before they are written.
+const KEPT_BACK: usize = 65_536;
 
 /// What a status means, for standard error; nothing where standard output says it.
 fn trouble(status: &Status) -> Option<&'static str> {
@@ -18,14 +22,28 @@ fn trouble(status: &Status) -> Option<&'static str> {
     }
 }
 
-fn main(rt: HostRuntime) -> io::Result<ExitCode> {
+/// Runs the script. An error is want of memory, or a word that isn't UTF-8.
+fn work(rt: &HostRuntime) -> io::Result<Status> {
     let mut words = Vec::new(rt.alloc());
-    for word in env::args(&rt)?.skip(1) {
+    for word in env::args(rt)?.skip(1) {
         words.push(word)?;
     }
+    let writer = BufWriter::with_capacity(rt.alloc(), KEPT_BACK, rt.stdout())?;
     let mut source = StdSource::new(rt.stdin());
-    let mut sink = StdSink::new(rt.stdout());
+    let mut sink = StdSink::new(writer);
     let status = run(rt.alloc(), words.as_slice(), &mut source, &mut sink);
+    match sink.flush() {
+        Ok(()) => Ok(status),
+        Err(_) => Ok(Status::WriteFault),
+    }
+}
+
+fn main(rt: HostRuntime) -> io::Result<ExitCode> {
+    let status = match work(&rt) {
+        Ok(status) => status,
+        Err(error) if error.kind() == ErrorKind::OutOfMemory => Status::NoMemory,
+        Err(_) => Status::BadWords { word: 1 },
+    };
     if let Some(text) = trouble(&status) {
         eprintln!(rt; "kmemleak: {text}")?;
     }

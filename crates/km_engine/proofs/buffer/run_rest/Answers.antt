@@ -1,11 +1,15 @@
-use Rattle.km_engine.proofs.Rests.{rest_ran, rest_ends}
+use Rattle.km_engine.proofs.Rests.{rest_ran, rest_ends, rest_none}
 use Rattle.km_engine.proofs.buffer.run_rest.Goals as goal
 
 pub returns-in-Ok : goal.returns-in-Ok
 returns-in-Ok g c =
-    let read = c.in-Ok.ensures in
-    rest_ran c.args.script.now c.args.lines.now c.in-Line.line.now _ _ read.0 c.requires.rest c.in-Line.ensures read.1 read.3
+    λ p stands.
+    let on = c.in-Ok.ensures.runs p stands in
+    rest_ran p c.line.new.self c.args.lines.now c.in-Line.line.now _ _ on.0 c.requires.rest c.in-Line.ensures on.1 on.2
 
 pub returns-in-Err : goal.returns-in-Err
 returns-in-Err g c =
-    rest_ends c.args.script.now c.args.lines.now c.in-Line.line.now _ _ c.in-Err.ended c.requires.rest c.in-Line.ensures c.in-Err.ensures
+    λ p stands. rest_ends p c.args.lines.now c.in-Line.line.now _ _ c.in-Err.ended c.requires.rest c.in-Line.ensures (c.in-Err.ensures.runs p stands)
+
+pub returns-in_default : goal.returns-in_default
+returns-in_default g c = λ p stands. rest_none p c.args.lines.now _ c.cut.result c.requires.rest c.cut.ensures c.in_default.not-Line

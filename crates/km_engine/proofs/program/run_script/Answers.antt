@@ -1,6 +1,6 @@
 use Rattle.std.proofs.Common.{◌≡◌, ◌<◌, ◌-◌, ℕ, List, [], ◌++◌, length, take, drop, ap, sym, ◌∙◌, arith, length-drop}
 use Rattle.std.proofs.lemmas.List.{append-nil, take-append-drop}
-use Rattle.km_engine.proofs.Runs.{running_start, running_on, running_more, running_stop, running_rest, running_fault, running_long}
+use Rattle.km_engine.proofs.Runs.{running_start, running_numbered, running_space, running_on, running_more, running_stop, running_rest, running_fault, running_long}
 use Rattle.km_engine.proofs.program.run_script.Goals as goal
 
 -- the last byte is taken away
@@ -13,14 +13,23 @@ last_byte lines held e some = (
 pub loop-taken-init : goal.loop-taken-init
 loop-taken-init g c = record { running = running_start _ _ _ _ c.new-script.ensures c.new-lines.ensures; within = omega arith; last = λ more. absurd (omega (arith, more)) }
 
+pub run_lines-requires-clause-numbered : goal.run_lines-requires-clause-numbered
+run_lines-requires-clause-numbered g c = running_numbered _ _ _ _ _ _ _ c.loop-taken.invariant.running c.loop-taken.invariant.within
+
+pub run_lines-requires-clause-room : goal.run_lines-requires-clause-room
+run_lines-requires-clause-room g c =
+    running_space _ _ _ _ _ _ _ (length c.loop-taken.lines) c.loop-taken.invariant.running (omega arith) (omega (arith, c.loop-taken-test.true))
+
 pub returns-in-Err : goal.returns-in-Err
 returns-in-Err g c =
     let lines = c.loop-taken.lines in
-    running_stop _ _ _ _ _ _ lines lines [] _ c.in-Err.ended c.loop-taken.invariant.running (sym (append-nil lines)) (omega arith) c.in-Err.ensures
+    let running = c.loop-taken.invariant.running in
+    running_stop _ _ _ _ _ _ lines lines [] _ c.in-Err.ended running (sym (append-nil lines)) (omega (arith, c.loop-taken-test.true)) (c.in-Err.ensures.runs running.place running.stands)
 
 pub returns-in-Ok-eq0 : goal.returns-in-Ok-eq0
 returns-in-Ok-eq0 g c =
-    let on = running_on _ _ _ _ _ _ _ _ _ _ c.loop-taken.invariant.running c.in_default.ensures.0 in
+    let running = c.loop-taken.invariant.running in
+    let on = running_on _ _ _ _ _ _ _ _ _ _ running (omega (arith, c.loop-taken-test.true)) (c.in_default.ensures.runs running.place running.stands) c.in_default.ensures.room in
     let fill = c.in-Ok-eq0.ensures in
     let n = c.in-Ok-eq0.field-0 in
     let more = running_more _ _ _ _ _ _ _ _ _ n on fill.fills.0 fill.fills.1 fill.fills.2 (omega (arith, fill.most)) fill.faults in
@@ -28,7 +37,8 @@ returns-in-Ok-eq0 g c =
 
 pub loop-taken-preserved : goal.loop-taken-preserved
 loop-taken-preserved g c =
-    let on = running_on _ _ _ _ _ _ _ _ _ _ c.loop-taken.invariant.running c.in_default.ensures.0 in
+    let running = c.loop-taken.invariant.running in
+    let on = running_on _ _ _ _ _ _ _ _ _ _ running (omega (arith, c.loop-taken-test.true)) (c.in_default.ensures.runs running.place running.stands) c.in_default.ensures.room in
     let fill = c.in-Ok.ensures in
     let n = c.in-Ok.n in
     record {
@@ -39,9 +49,10 @@ loop-taken-preserved g c =
 
 pub returns-in-Err-fill : goal.returns-in-Err-fill
 returns-in-Err-fill g c =
-    let on = running_on _ _ _ _ _ _ _ _ _ _ c.loop-taken.invariant.running c.in_default.ensures.0 in
+    let running = c.loop-taken.invariant.running in
+    let on = running_on _ _ _ _ _ _ _ _ _ _ running (omega (arith, c.loop-taken-test.true)) (c.in_default.ensures.runs running.place running.stands) c.in_default.ensures.room in
     let fill = c.in-Err-fill.ensures in
-    running_fault _ _ _ _ _ _ _ _ on c.in_default.ensures.1 fill.fills.1 fill.faults fill.fills.2
+    running_fault _ _ _ _ _ _ _ _ on c.in_default.ensures.unknown fill.fills.1 fill.faults fill.fills.2
 
 pub drop_last-requires : goal.drop_last-requires
 drop_last-requires g c = c.loop-taken.invariant.last c.loop-taken-test.false
@@ -50,12 +61,14 @@ pub returns-in-Ok-run_lines : goal.returns-in-Ok-run_lines
 returns-in-Ok-run_lines g c =
     let lines = c.loop-taken.lines in
     let last = last_byte lines c.drop_last.new.self c.drop_last.ensures (c.loop-taken.invariant.last c.loop-taken-test.false) in
-    running_long _ _ _ _ _ _ _ _ lines _ (drop (length lines - 1) lines) _ c.loop-taken.invariant.running last.0 last.1
-    (omega (arith, c.loop-taken-test.false, c.loop-taken.invariant.within)) c.in-Ok-run_lines.ensures.0 c.in-Ok-run_lines.ensures.1
+    let running = c.loop-taken.invariant.running in
+    running_long _ _ _ _ _ _ _ _ lines _ (drop (length lines - 1) lines) _ running last.0 last.1
+    (omega (arith, c.loop-taken-test.false, c.loop-taken.invariant.within)) (c.in-Ok-run_lines.ensures.runs running.place running.stands) c.in-Ok-run_lines.ensures.unknown
 
 pub returns : goal.returns
 returns g c =
     let lines = c.loop-taken.lines in
     let last = last_byte lines c.drop_last.new.self c.drop_last.ensures (c.loop-taken.invariant.last c.loop-taken-test.false) in
-    running_stop _ _ _ _ _ _ _ lines (drop (length lines - 1) lines) _ c.in-Err-run_lines.ended c.loop-taken.invariant.running last.0
-    (omega (arith, last.1, c.loop-taken.invariant.within)) c.in-Err-run_lines.ensures
+    let running = c.loop-taken.invariant.running in
+    running_stop _ _ _ _ _ _ _ lines (drop (length lines - 1) lines) _ c.in-Err-run_lines.ended running last.0
+    (omega (arith, last.1, c.loop-taken.invariant.within)) (c.in-Err-run_lines.ensures.runs running.place running.stands)

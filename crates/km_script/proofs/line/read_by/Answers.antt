@@ -16,19 +16,19 @@ returns-then-begins_comment c =
     (record { short = c.if-bytes-gt-LONGEST_LINE.false; all = c.of-words.ensures.all; word = ap (option_map piece_of) (sym c.in-Some.is) ∙ c.next.ensures.word })
     (sym c.begins_comment.ensures ∙ c.if-begins_comment.true)
 
-pub returns-in-Some-first_foreign : goal.returns-in-Some-first_foreign
-returns-in-Some-first_foreign c =
-    foreign (table_of c.args.table) c.args.first c.args.bytes.now c.of-words.result (piece_of c.in-Some.word) c.in-Some-first_foreign.place
+pub returns-in-Some-foreign_place : goal.returns-in-Some-foreign_place
+returns-in-Some-foreign_place c =
+    foreign (table_of c.args.table) c.args.first c.args.bytes.now c.of-words.result (piece_of c.in-Some.word) c.in-Some-foreign_place.place
     (record { short = c.if-bytes-gt-LONGEST_LINE.false; all = c.of-words.ensures.all; word = ap (option_map piece_of) (sym c.in-Some.is) ∙ c.next.ensures.word })
     (sym c.begins_comment.ensures ∙ c.if-begins_comment.false)
-    (sym c.first_foreign.ensures ∙ c.in-Some-first_foreign.is)
+    (sym c.foreign_place.ensures ∙ c.in-Some-foreign_place.is)
 
 pub returns : goal.returns
 returns c =
     words_behind (table_of c.args.table) c.args.first c.args.bytes.now c.of-words.result _ (piece_of c.in-Some.word) _
     (record { short = c.if-bytes-gt-LONGEST_LINE.false; all = c.of-words.ensures.all; word = ap (option_map piece_of) (sym c.in-Some.is) ∙ c.next.ensures.word })
     (sym c.begins_comment.ensures ∙ c.if-begins_comment.false)
-    (sym c.first_foreign.ensures ∙ c.in_default-first_foreign.is)
+    (sym c.foreign_place.ensures ∙ c.in_default-foreign_place.is)
     c.of-words.ensures.end
     c.next.ensures.rest
-    c.read_words.ensures
+    c.read_words-read.ensures.read

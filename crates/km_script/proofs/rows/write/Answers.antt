@@ -13,7 +13,7 @@ only_any end [] word make e = absurd (cc)
 only_any end (p ∷ []) word make e = let h : word ≡ p.bytes = cc in ap (λ w. Ok (make w)) h
 only_any end (p ∷ q ∷ ps) word make e = absurd (cc)
 
-pub returns : goal.returns
-returns c =
+pub returns-clause-read : goal.returns-clause-read
+returns-clause-read c =
     ap (λ f. Ok (Write f)) c.file_command.ensures
-    ∙ only_any c.args.words.now.end c.args.words.now.pieces c.in_ok-word.word.now (λ word. Write (file_command word)) (ap (map_ok bytes_of) (sym c.in_ok-word.was) ∙ c.only_word.ensures)
+    ∙ only_any c.args.words.now.end c.args.words.now.pieces c.in_ok-word.word.now (λ word. Write (file_command word)) (ap (map_ok bytes_of) (sym c.in_ok-word.was) ∙ c.only_word.ensures.said)

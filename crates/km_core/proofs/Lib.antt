@@ -1,0 +1,10 @@
+pub mod Marks
+pub mod Places
+pub mod Standing
+pub mod HostActs
+pub mod TaskActs
+pub mod BlockActs
+pub mod AreaActs
+pub mod NoteActs
+pub mod ScanActs
+pub mod Cores

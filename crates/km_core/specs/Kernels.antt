@@ -1,0 +1,26 @@
+-- Small words of the kernel's calls.
+use Rattle.std.specs.Prelude.{ℕ, Bool, true, false, Option, Some, None, if◌then◌else◌}
+use Rattle.km_base.specs.declared.acts.FileCmd.{FileCmd}
+use Rattle.km_base.specs.declared.acts.FileCmd.TheVariants.{Off, Scan, Clear, Dump}
+use Rattle.km_base.specs.declared.acts.Answer.{Answer}
+use Rattle.km_base.specs.declared.acts.Answer.TheVariants.{Done, Refused}
+use Rattle.km_base.specs.declared.acts.Refusal.{Refusal}
+use Rattle.km_base.specs.declared.acts.Refusal.TheVariants.{Busy, Disabled, NoObject}
+
+-- whether a word sets something and does nothing else
+abbrev pub is_setting : FileCmd → Bool
+is_setting Off = false
+is_setting Scan = false
+is_setting Clear = false
+is_setting (Dump _) = false
+is_setting _ = true
+
+-- why a word is refused
+abbrev pub word_refused : Bool → Option ℕ → Option Refusal
+word_refused false running = Some Disabled
+word_refused true None = None
+word_refused true (Some k) = Some (Busy k)
+
+-- done where there is a block
+abbrev pub done_if : Bool → Answer
+done_if there = if there then Done else Refused NoObject

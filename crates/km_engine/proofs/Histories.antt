@@ -1,0 +1,54 @@
+-- The histories that lines lead to.
+use Rattle.std.proofs.Common.{◌≡◌, ℕ, ◌+◌, List, [], ◌∷◌, ◌++◌, Ok, Err, refl, sym, subst}
+use Rattle.km_converse.proofs.ToldLaw.{forgotten_are_listed}
+use Rattle.km_laws.proofs.NotHeld.{listed_are_not_held}
+use Rattle.km_model.specs.declared.lines.Command.{Command}
+use Rattle.km_model.specs.declared.lines.Command.TheVariants.{Memory}
+use Rattle.km_model.specs.declared.lines.Line.{Line}
+use Rattle.km_model.specs.declared.lines.Line.TheVariants as line
+use Rattle.km_model.specs.History.{History}
+use Rattle.km_model.specs.Follows.{FollowsMemory}
+use Rattle.km_model.specs.Grammar.{line_of}
+use Rattle.km_model.specs.Headline.{IsMemorySize}
+use Rattle.km_model.specs.Output.{Script, Fresh, Begun, Leads, LeadsLine, LineThen, Prints, is_fresh}
+use Rattle.km_model.proofs.FollowLaws.{makes_follows}
+use Rattle.km_model.proofs.VerdictLaws.{listed_are_live, new_at_most_once}
+use Rattle.km_engine.specs.Headline.{Headline}
+use Rattle.km_engine.specs.Steps.{IsFit, IsFitLine}
+use Rattle.km_engine.proofs.Fit.{read_is_fit}
+
+-- a script that has begun has a memory, and its history follows it
+abbrev pub IsSound : Script → Type 0
+IsSound Fresh = Unit {0}
+IsSound (Begun words h) = IsMemorySize words × FollowsMemory words h
+
+leads_sound : (m : Script) (c : Command) (next : Script) (text : List ℕ) → IsFit (is_fresh m) c → Leads m c next text → IsSound m → IsSound next
+leads_sound Fresh (Memory words) next text fit p sound = subst IsSound (sym p.0) (fit, tt)
+leads_sound Fresh _ next text fit p sound = absurd p
+leads_sound (Begun words h) c next text fit p sound = subst IsSound (sym p.2) (sound.0, makes_follows words h c p.0 p.1 sound.1)
+
+pub line_sound : (m : Script) (l : Line) (next : Script) (text : List ℕ) → IsFitLine (is_fresh m) l → LeadsLine m l next text → IsSound m → IsSound next
+line_sound m line.Blank next text fit p sound = subst IsSound (sym p.0) sound
+line_sound m (line.Command c) next text fit p sound = leads_sound m c next text fit p sound
+
+prints_sound : (ls : List (List ℕ)) (m : Script) (n : ℕ) (end : Script) (out : List ℕ) → Prints m n ls end out → IsSound m → IsSound end
+prints_sound [] m n end out p sound = subst IsSound (sym p.0) sound
+prints_sound (l ∷ ls) m n end out p sound =
+    elim (line_of (is_fresh m) l) as (λ r. line_of (is_fresh m) l ≡ r → LineThen r m n (λ between e o. Prints between (n + 1) ls e o) end out → IsSound end) [
+      | Err e ↦ λ read c. subst IsSound (sym c.0) sound
+      | Ok x ↦ λ read c. prints_sound ls c.0 (n + 1) end c.2 c.4 (line_sound m x c.0 c.1 (read_is_fit (is_fresh m) l x read) c.3 sound)
+    ] refl p
+
+-- what follows a memory followed it at each moment
+followed : (words : ℕ) (later before : History) → FollowsMemory words (later ++ before) → FollowsMemory words before
+followed words [] before f = f
+followed words (e ∷ later) before f = followed words later before f.1
+
+pub headline : (lines : List (List ℕ)) → Headline lines
+headline lines = record {
+  applies = λ words later before out p. let sound = prints_sound lines Fresh 1 (Begun words (later ++ before)) out p tt in (sound.0, followed words later before sound.1);
+  listed_are_not_held = listed_are_not_held;
+  forgotten_are_listed = forgotten_are_listed;
+  listed_are_live = listed_are_live;
+  new_at_most_once = new_at_most_once;
+}

@@ -1,0 +1,345 @@
+-- What the events of a line print, one after the other.
+use Rattle.std.proofs.Common.{◌≡◌, ℕ, suc, ◌+◌, ◌-◌, ◌≤◌, Bool, true, false, ◌||◌, not, nat_lt, List, [], ◌∷◌, ◌++◌, length, Option, Some, None, Result, Ok, Err, refl, ap, sym, subst, ◌∙◌, arith}
+use Rattle.std.proofs.lemmas.List.{append-nil}
+use Rattle.km_base.specs.declared.acts.Act.{Act}
+use Rattle.km_base.specs.declared.acts.Act.TheVariants as act
+use Rattle.km_base.specs.declared.acts.FileCmd.{FileCmd}
+use Rattle.km_base.specs.declared.acts.FileCmd.TheVariants as file
+use Rattle.km_base.specs.declared.acts.Answer.{Answer}
+use Rattle.km_base.specs.declared.acts.Answer.TheVariants.{Done, At, Loaded, Ended, Skipped, Dumped, Refused}
+use Rattle.km_base.specs.declared.acts.Refusal.{Refusal}
+use Rattle.km_base.specs.declared.acts.Refusal.TheVariants.{NoObject, NotInside, NoScanRunning, Disabled}
+use Rattle.km_edge.specs.declared.errors.Failed.{Failed}
+use Rattle.km_edge.specs.Streams.{SinkState, WritesAll}
+use Rattle.km_edge.proofs.Writing.{wrote_none}
+use Rattle.km_model.specs.declared.lines.Command.{Command}
+use Rattle.km_model.specs.declared.lines.Command.TheVariants as command
+use Rattle.km_model.specs.declared.lines.Operand.{Operand}
+use Rattle.km_model.specs.declared.lines.RegName.{RegName}
+use Rattle.km_model.specs.Blocks.{Block, block_at, block_with}
+use Rattle.km_model.specs.World.{World}
+use Rattle.km_model.specs.Past.{Past, Place, world, running_scan, scans}
+use Rattle.km_model.specs.Scan.{next}
+use Rattle.km_model.specs.Verdict.{new_blocks}
+use Rattle.km_model.specs.History.{History, ticks_of}
+use Rattle.km_model.specs.Follows.{all_happen, happens, told_answer, told_value, past_of}
+use Rattle.km_model.specs.Answers.{answer, unless, done_at, unless_busy, annotation_answer, area_added, part_answer, dump_answer, stop_answer, write_answer, info_of}
+use Rattle.km_model.specs.Changes.{world_after_act}
+use Rattle.km_model.specs.Operands.{operand_value, task_or_refusal, then_do}
+use Rattle.km_model.specs.Tasks.{Task}
+use Rattle.km_model.specs.Placement.{slot_of_area}
+use Rattle.km_model.specs.Expansion.{Acts, Makes, for_register, slot_word, vfree_acts, acts_behind, behind_acts, behind_line, first_acts, further_acts, world_after}
+use Rattle.km_model.specs.Output.{answer_text, events_text, keyword, line_text, listing_text, print_text, print_value}
+use Rattle.km_model.specs.Text.{refusal_text, value_text}
+use Rattle.km_core.specs.Cores.{Seen}
+use Rattle.km_machine.specs.Machines.{For, RunsLine, Spent}
+use Rattle.km_machine.specs.Lines.{Gave, IsGiven, SoFar, is_alone, is_allocation, is_request, is_simple}
+
+-- whether an answer is an address
+abbrev pub is_place : Answer → Bool
+is_place (At _) = true
+is_place _ = false
+
+record NoPlace (x : Answer) : Type 0 where
+  no : is_place x ≡ false
+
+unless_not : (b : Bool) (r : Refusal) (x : Answer) → NoPlace x → NoPlace (unless b r x)
+unless_not true r x e = record { no = refl }
+unless_not false r x e = e
+
+done_at_not : (o : Option ℕ) → NoPlace (done_at o)
+done_at_not None = record { no = refl }
+done_at_not (Some a) = record { no = refl }
+
+done_not : NoPlace Done
+done_not = record { no = refl }
+
+busy_not : (o : Option ℕ) (x : Answer) → NoPlace x → NoPlace (unless_busy o x)
+busy_not None x e = e
+busy_not (Some k) x e = record { no = refl }
+
+stop_not : (o : Option ℕ) (x : Answer) → NoPlace x → NoPlace (stop_answer o x)
+stop_not None x e = e
+stop_not (Some k) x e = record { no = refl }
+
+found_not : (o : Option Block) → NoPlace (elim o as (λ _. Answer) [ None ↦ Refused NoObject | Some _ ↦ Done ])
+found_not None = record { no = refl }
+found_not (Some b) = record { no = refl }
+
+note_not : (w : World) (a : ℕ) → NoPlace (annotation_answer w a)
+note_not w a = unless_not _ _ _ (found_not (block_at w.blocks a))
+
+added_not : (a size : ℕ) (o : Option Block) → NoPlace (elim o as (λ _. Answer) [ None ↦ Refused NoObject | Some b ↦ area_added b a size ])
+added_not a size None = record { no = refl }
+added_not a size (Some b) = search (unless_not, done_not)
+
+part_not : (o : Option Block) (end : ℕ) → NoPlace (part_answer o end)
+part_not None end = record { no = refl }
+part_not (Some b) end = unless_not (nat_lt (b.start + b.size) end) NotInside Done done_not
+
+shown_not : (past : Past) (o : Option Block) → NoPlace (elim o as (λ _. Answer) [ None ↦ Refused NoObject | Some b ↦ Dumped (info_of past b) ])
+shown_not past None = record { no = refl }
+shown_not past (Some b) = record { no = refl }
+
+skip_not : (o : Option ℕ) → NoPlace (elim o as (λ _. Answer) [ None ↦ Done | Some _ ↦ Skipped ])
+skip_not None = record { no = refl }
+skip_not (Some k) = record { no = refl }
+
+word_not : (past : Past) (word : FileCmd) → NoPlace (write_answer past word)
+word_not past file.Off = unless_not (not (world past).enabled) Disabled (stop_answer (running_scan past) Done) (stop_not (running_scan past) Done done_not)
+word_not past file.Clear = busy_not (running_scan past) Done done_not
+word_not past (file.Dump a) =
+    unless_not (not (world past).enabled) Disabled (unless_busy (running_scan past) (dump_answer past a)) (busy_not (running_scan past) (dump_answer past a) (shown_not past (block_with (world past).blocks a)))
+word_not past _ = unless_not (not (world past).enabled) Disabled (unless_busy (running_scan past) Done) (busy_not (running_scan past) Done done_not)
+
+step_not : (past : Past) (value : ℕ) (o : Option ℕ) (p : Option Place)
+    → NoPlace (elim o as (λ _. Answer) [ None ↦ Refused NoScanRunning | Some _ ↦ elim p as (λ _. Answer) [ None ↦ Ended (scans past) (length (new_blocks past)) | Some place ↦ Loaded place.word value ] ])
+step_not past value None p = record { no = refl }
+step_not past value (Some k) None = record { no = refl }
+step_not past value (Some k) (Some place) = record { no = refl }
+
+loaded_not : (a value : ℕ) → NoPlace (Loaded a value)
+loaded_not a value = record { no = refl }
+
+-- an act that asks for no allocation is answered by no address
+not_place : (words : ℕ) (past : Past) (a : Act) (value : ℕ) → is_request a ≡ false → NoPlace (answer words past a value)
+unfolding answer
+not_place words past (act.Section name n) value s = search (unless_not, done_at_not)
+not_place words past (act.TaskStart name) value s = search (unless_not, done_at_not)
+not_place words past (act.TaskExit name) value s = search (unless_not, done_not)
+not_place words past (act.SetReg task reg v) value s = search (unless_not, done_not)
+not_place words past (act.Load task reg a) value s = search (unless_not, loaded_not)
+not_place words past (act.Store a v) value s = search (unless_not, done_not)
+not_place words past (act.Kfree a) value s = search (unless_not, done_not)
+not_place words past (act.FreePages a) value s = search (unless_not, done_not)
+not_place words past (act.VmGive a) value s = search (unless_not, done_not)
+not_place words past (act.FreePart a size) value s = search (unless_not, part_not)
+not_place words past (act.NotLeak a) value s = note_not (world past) a
+not_place words past (act.Ignore a) value s = note_not (world past) a
+not_place words past (act.NoScan a) value s = note_not (world past) a
+not_place words past (act.ScanArea a size) value s = let added = added_not a size (block_with (world past).blocks a) in search unless_not
+not_place words past (act.TransientLeak a) value s = note_not (world past) a
+not_place words past (act.File word) value s = word_not past word
+not_place words past act.Read value s = busy_not (running_scan past) Done done_not
+not_place words past (act.Tick n) value s = done_not
+not_place words past act.AutoBegin value s = unless_not (not (world past).enabled) Disabled _ (skip_not (running_scan past))
+not_place words past act.Step value s = step_not past value (running_scan past) (next past)
+not_place words past act.Halt value s = stop_not (running_scan past) (Refused NoScanRunning) (record { no = refl })
+not_place words past (act.Kmalloc size) value s = absurd (cc)
+not_place words past (act.Pages n) value s = absurd (cc)
+not_place words past (act.VmTake size) value s = absurd (cc)
+not_place words past (act.BootMem size) value s = absurd (cc)
+
+no_request : (words : ℕ) (h : History) (a : Act) → is_request a ≡ false → is_place (told_answer words h a) ≡ false
+no_request words h a s = (not_place words (past_of h) a (told_value words h a) s).no
+
+simple_request : (a : Act) → is_simple a ≡ true → is_request a ≡ false
+simple_request (act.Kmalloc _) s = absurd (cc)
+simple_request (act.Pages _) s = absurd (cc)
+simple_request (act.VmTake _) s = absurd (cc)
+simple_request (act.BootMem _) s = absurd (cc)
+simple_request a s = refl
+
+pub simply_answered : (words : ℕ) (h : History) (a : Act) → is_simple a ≡ true → is_place (told_answer words h a) ≡ false
+simply_answered words h a s = no_request words h a (simple_request a s)
+
+-- the first word of a line stands in an address's text alone
+pub any_word : (words : ℕ) (v w : List ℕ) (h : History) (a : Act) (given : Answer) → is_place given ≡ false → answer_text words v h a given ≡ answer_text words w h a given
+any_word words v w h a (At x) e = absurd (cc)
+any_word words v w h act.Read Done e = refl
+any_word words v w h a given e = refl
+
+-- neither kind of act reads the file
+pub simple_unread : (a : Act) → is_simple a ≡ true → a ≡ act.Read → ⊥
+simple_unread a s e = let bad : false ≡ true = subst (λ x. is_simple x ≡ true) e s in cc
+
+pub request_unread : (a : Act) → is_request a ≡ true → a ≡ act.Read → ⊥
+request_unread a s e = let bad : false ≡ true = subst (λ x. is_request x ≡ true) e s in cc
+
+pub request_ticks : (a : Act) → is_request a ≡ true → ticks_of a ≡ 0
+request_ticks (act.Tick n) e = absurd (cc)
+request_ticks a e = refl
+
+-- a line begins
+abbrev pub begun : (word : List ℕ) (core : Seen) (memory : List ℕ) (h : History) (k : SinkState) → For core memory h → SoFar core.parts.words word h h core memory k k (Ok tt)
+begun word core memory h k f = record { stands = f; words = refl; count = 0; grown = (omega arith); wrote = wrote_none k }
+
+-- one event more
+pub one_more : (size : ℕ) (word : List ℕ) (first h : History) (core next : Seen) (memory after : List ℕ) (k k' k'' : SinkState) (written result : Result (Unit {0}) Failed) (a : Act) (given : Answer)
+    → (s : SoFar size word first h core memory k k' written) → For next after (happens core.parts.words h a) → next.parts.words ≡ core.parts.words → given ≡ told_answer core.parts.words h a
+    → WritesAll k k'' (events_text size word s.count h ++ answer_text size word h a given) result → SoFar size word first (happens size h a) next after k k'' result
+one_more size word first h core next memory after k k' k'' written result a given s f same answered wrote = record {
+  stands = subst (λ n. For next after (happens n h a)) s.words f;
+  words = same ∙ s.words;
+  count = suc s.count;
+  grown = (let e = s.grown in omega (arith, e));
+  wrote = subst (λ x. WritesAll k k'' (events_text size word s.count h ++ answer_text size word h a x) result) (answered ∙ ap (λ n. told_answer n h a) s.words) wrote;
+}
+
+-- a line that makes its acts and then those behind an address
+abbrev is_plain : Command → Bool
+is_plain c = is_alone c || is_allocation c
+
+pub alone_plain : (c : Command) → is_alone c ≡ true → is_plain c ≡ true
+alone_plain c e = ap (λ b. b || is_allocation c) e
+
+pub allocation_plain : (c : Command) → is_allocation c ≡ true → is_plain c ≡ true
+allocation_plain c e = either (is_alone c) (is_allocation c) e where
+  either : (b d : Bool) → d ≡ true → (b || d) ≡ true
+  either true d e = refl
+  either false d e = e
+
+plain_makes : (words : ℕ) (h x : History) (c : Command) → is_plain c ≡ true → behind_line words h c ≡ x → Makes words h c x
+plain_makes words h x (command.Write (Some file.Scan)) p e = absurd (cc)
+plain_makes words h x (command.Step n) p e = absurd (cc)
+plain_makes words h x command.Finish p e = absurd (cc)
+plain_makes words h x (command.Tick n) p e = absurd (cc)
+plain_makes words h x c p e = e
+
+plain_prints : (h : History) (c : Command) → is_plain c ≡ true → print_text h c ≡ []
+plain_prints h (command.Print o) p = absurd (cc)
+plain_prints h c p = refl
+
+-- the text of a line is that of its events
+line_is : (words count : ℕ) (h x : History) (c : Command) (acts : List Act) → first_acts (world_after h) c ≡ Ok acts → print_text h c ≡ [] → length x ≡ count + length h
+    → line_text words h c x ≡ events_text words (keyword c) count x
+line_is words count h x c acts first prints grown =
+    ap (λ (r : Acts). elim r as (λ _. List ℕ) [ Err r ↦ refusal_text r | Ok _ ↦ print_text h c ++ events_text words (keyword c) (length x - length h) x ]) first
+    ∙ ap (λ t. t ++ events_text words (keyword c) (length x - length h) x) prints
+    ∙ (let n : length x - length h ≡ count = omega (arith, grown) in ap (λ n. events_text words (keyword c) n x) n)
+
+ran : (core next : Seen) (memory after : List ℕ) (h x : History) (c : Command) (k k' : SinkState) (result : Result (Unit {0}) Failed) (acts : List Act)
+    → SoFar core.parts.words (keyword c) h x next after k k' result → first_acts (world_after h) c ≡ Ok acts → print_text h c ≡ [] → Makes core.parts.words h c x
+    → RunsLine core next memory after h c k k' result
+ran core next memory after h x c k k' result acts s first prints makes = record {
+  behind = x;
+  makes = makes;
+  stands = s.stands;
+  wrote = subst (λ t. WritesAll k k' t result) (sym (line_is core.parts.words s.count h x c acts first prints s.grown)) s.wrote;
+}
+
+-- a plain line of these acts
+pub plain_ran : (core next : Seen) (memory after : List ℕ) (h : History) (c : Command) (k k' : SinkState) (result : Result (Unit {0}) Failed) (a : Act) → is_plain c ≡ true → Ok (a ∷ []) ≡ first_acts (world_after h) c
+    → SoFar core.parts.words (keyword c) h (all_happen core.parts.words (happens core.parts.words h a) (further_acts (happens core.parts.words h a) c)) next after k k' result
+    → RunsLine core next memory after h c k k' result
+plain_ran core next memory after h c k k' result a plain first s =
+    ran core next memory after h _ c k k' result (a ∷ []) s (sym first) (plain_prints h c plain)
+    (plain_makes core.parts.words h _ c plain (ap (behind_acts core.parts.words h c) (sym first)))
+
+-- nothing is behind what isn't an address
+pub none_further : (h : History) (a : Act) (given : Answer) (c : Command) → is_place given ≡ false → further_acts (record { act = a; answer = given } ∷ h) c ≡ []
+none_further h a (At x) c e = absurd (cc)
+none_further h a given c e = refl
+
+-- a line that is refused
+pub refused_line : (core : Seen) (memory : List ℕ) (h : History) (c : Command) (k k' : SinkState) (result : Result (Unit {0}) Failed) (r : Refusal) → is_plain c ≡ true → For core memory h
+    → Err r ≡ first_acts (world_after h) c → WritesAll k k' (refusal_text r) result → RunsLine core core memory memory h c k k' result
+refused_line core memory h c k k' result r plain f first wrote = record {
+  behind = h;
+  makes = plain_makes core.parts.words h h c plain (ap (behind_acts core.parts.words h c) (sym first));
+  stands = f;
+  wrote = subst (λ t. WritesAll k k' t result) (ap (λ (x : Acts). elim x as (λ _. List ℕ) [ Err r ↦ refusal_text r | Ok _ ↦ print_text h c ++ events_text core.parts.words (keyword c) (length h - length h) h ]) first) wrote;
+}
+
+pub not_at : (x : Answer) → ((a : ℕ) → x ≡ At a → ⊥) → is_place x ≡ false
+not_at (At a) never = absurd (never a refl)
+not_at x never = refl
+
+-- what is behind an address
+pub further_at : (h x : History) (a : Act) (start : ℕ) (c : Command) → x ≡ record { act = a; answer = At start } ∷ h → further_acts x c ≡ acts_behind (world_after x) c start
+further_at h x a start c e = subst (λ y. further_acts y c ≡ acts_behind (world_after y) c start) (sym e) refl
+
+-- a line that prints a value
+pub shows : (core : Seen) (memory : List ℕ) (h : History) (o : Operand) (k k' : SinkState) (result : Result (Unit {0}) Failed) (v : ℕ) → For core memory h → Ok v ≡ operand_value (world_after h) o
+    → WritesAll k k' (value_text v) result → RunsLine core core memory memory h (command.Print o) k k' result
+shows core memory h o k k' result v f e wrote = record {
+  behind = h;
+  makes = ap (λ (r : Result ℕ Refusal). behind_acts core.parts.words h (command.Print o) (then_do r (λ _. Ok []))) (sym e);
+  stands = f;
+  wrote = subst (λ t. WritesAll k k' t result) (sym text) wrote;
+} where
+  none : length h - length h ≡ 0
+  none = omega arith
+
+  text : line_text core.parts.words h (command.Print o) h ≡ value_text v
+  text =
+      ap (λ (r : Result ℕ Refusal). elim (then_do {B = List Act} r (λ _. Ok [])) as (λ _. List ℕ) [
+        | Err x ↦ refusal_text x
+        | Ok _ ↦ print_value r ++ events_text core.parts.words [] (length h - length h) h
+      ]) (sym e) ∙ ap (λ n. value_text v ++ events_text core.parts.words [] n h) none ∙ append-nil (value_text v)
+
+-- a read lists, or is refused
+listed_same : (words : ℕ) (h : History) → listing_text words (record { act = act.Read; answer = Done } ∷ h) ≡ listing_text words h
+unfolding world_after_act
+listed_same words h = refl
+
+pub read_text : (words : ℕ) (word : List ℕ) (h : History) (given : Answer) → (given ≡ Done → ⊥) → given ≡ told_answer words h act.Read
+    → answer_text words word h act.Step given ≡ answer_text words [] h act.Read given
+unfolding answer
+read_text words word h given never e = by_scan (running_scan (past_of h)) e where
+  by_scan : (o : Option ℕ) → given ≡ unless_busy o Done → answer_text words word h act.Step given ≡ answer_text words [] h act.Read given
+  by_scan None e = absurd (never e)
+  by_scan (Some k) e = ap (answer_text words word h act.Step) e ∙ ap (answer_text words [] h act.Read) (sym e)
+
+pub reads : (core next : Seen) (memory after : List ℕ) (h : History) (k k' : SinkState) (result : Result (Unit {0}) Failed) (given : Answer) → For core memory h
+    → For next after (happens core.parts.words h act.Read) → next.parts.words ≡ core.parts.words → given ≡ told_answer core.parts.words h act.Read
+    → WritesAll k k' (answer_text core.parts.words [] h act.Read given) result → RunsLine core next memory after h command.Read k k' result
+reads core next memory after h k k' result given f stands words answered wrote =
+    ran core next memory after h (happens core.parts.words h act.Read) command.Read k k' result (act.Read ∷ [])
+    (one_more core.parts.words [] h h core next memory after k k k' (Ok tt) result act.Read given (begun [] core memory h k f) stands words answered wrote) refl refl
+    (ap (all_happen core.parts.words (happens core.parts.words h act.Read)) (none_further h act.Read (told_answer core.parts.words h act.Read) command.Read (no_request core.parts.words h act.Read refl)))
+
+pub lists : (core next : Seen) (memory after : List ℕ) (h : History) (k k' : SinkState) (result : Result (Unit {0}) Failed) → For core memory h
+    → For next after (happens core.parts.words h act.Read) → next.parts.words ≡ core.parts.words → Done ≡ told_answer core.parts.words h act.Read
+    → WritesAll k k' (listing_text next.parts.words (happens core.parts.words h act.Read)) result → RunsLine core next memory after h command.Read k k' result
+lists core next memory after h k k' result f stands words answered wrote =
+    reads core next memory after h k k' result Done f stands words answered (subst (λ t. WritesAll k k' t result)
+    (ap (λ n. listing_text n (happens core.parts.words h act.Read)) words ∙ ap (λ x. listing_text core.parts.words (record { act = act.Read; answer = x } ∷ h)) (sym answered) ∙ listed_same core.parts.words h) wrote)
+
+-- an area is given back
+none_behind_vfree : (h : History) (o : Operand) → further_acts h (command.Vfree o) ≡ []
+none_behind_vfree [] o = refl
+none_behind_vfree (e ∷ h) o = by_answer e.answer where
+  by_answer : (x : Answer) → (elim x as (λ _. List Act) [ At a ↦ acts_behind (world_after (e ∷ h)) (command.Vfree o) a | _ ↦ [] ]) ≡ []
+  by_answer x = elim x as (λ x. (elim x as (λ _. List Act) [ At a ↦ acts_behind (world_after (e ∷ h)) (command.Vfree o) a | _ ↦ [] ]) ≡ []) [ At a ↦ refl | _ ↦ refl ]
+
+gives_acts : (words : ℕ) (h : History) (o : Operand) (a : ℕ) (slot : Option ℕ)
+    → behind_acts words h (command.Vfree o) (Ok (elim slot as (λ _. List Act) [ None ↦ act.VmGive a ∷ [] | Some s ↦ act.Store (slot_word s) 0 ∷ act.VmGive a ∷ [] ]))
+    ≡ all_happen words h (elim slot as (λ _. List Act) [ None ↦ act.VmGive a ∷ [] | Some s ↦ act.Store (slot_word s) 0 ∷ act.VmGive a ∷ [] ])
+gives_acts words h o a None = ap (all_happen words (all_happen words h (act.VmGive a ∷ []))) (none_behind_vfree (all_happen words h (act.VmGive a ∷ [])) o)
+gives_acts words h o a (Some s) = ap (all_happen words (all_happen words h (act.Store (slot_word s) 0 ∷ act.VmGive a ∷ []))) (none_behind_vfree (all_happen words h (act.Store (slot_word s) 0 ∷ act.VmGive a ∷ [])) o)
+
+pub gives : (core next : Seen) (memory after : List ℕ) (h : History) (o : Operand) (k k' : SinkState) (result : Result (Unit {0}) Failed) (a : ℕ) → Ok a ≡ operand_value (world_after h) o
+    → SoFar core.parts.words [] h (all_happen core.parts.words h (vfree_acts (world_after h) a)) next after k k' result → RunsLine core next memory after h (command.Vfree o) k k' result
+gives core next memory after h o k k' result a e s =
+    ran core next memory after h _ (command.Vfree o) k k' result (vfree_acts (world_after h) a) s (ap (λ (r : Result ℕ Refusal). then_do r (λ x. Ok (vfree_acts (world_after h) x))) (sym e)) refl
+    (ap (λ (r : Result ℕ Refusal). behind_acts core.parts.words h (command.Vfree o) (then_do r (λ x. Ok (vfree_acts (world_after h) x)))) (sym e)
+    ∙ gives_acts core.parts.words h o a (slot_of_area (world_after h).used a))
+
+-- acts in two parts
+pub happen_append : (words : ℕ) (h : History) (xs ys : List Act) → all_happen words h (xs ++ ys) ≡ all_happen words (all_happen words h xs) ys
+happen_append words h [] ys = refl
+happen_append words h (x ∷ xs) ys = happen_append words (happens words h x) xs ys
+
+-- the request of a line is the act that its register is for
+asked_for : (w : World) (r : Option RegName) (a b : Act) → Ok (a ∷ []) ≡ for_register w r b → a ≡ b
+asked_for w None a b e = (cc)
+asked_for w (Some r) a b e = by_task (task_or_refusal w r.task) e where
+  by_task : (o : Result Task Refusal) → Ok (a ∷ []) ≡ then_do o (λ _. Ok (b ∷ [])) → a ≡ b
+  by_task (Ok t) e = (cc)
+  by_task (Err x) e = absurd (let z : ⊥ = cc in z)
+
+pub gave : (c d : Command) (start : ℕ) (r : Option RegName) (a : Act) (h : History) → c ≡ d → ((w : World) → first_acts w d ≡ for_register w r a) → IsGiven c start h → Gave a start h
+gave c d start r a h is asks given = record {
+  before = given.before;
+  newest = given.newest ∙ ap (λ x. record { act = x; answer = At start } ∷ given.before)
+      (asked_for (world_after given.before) r given.request a (given.first ∙ ap (first_acts (world_after given.before)) is ∙ asks (world_after given.before)));
+}
+
+pub spent_less : (core next : Seen) (memory after : List ℕ) (n m : ℕ) → Spent core next memory after n 0 → n ≤ m → Spent core next memory after m 0
+spent_less core next memory after n m s low = record {
+  size = s.size;
+  words = s.words;
+  events = (let e = s.events in omega (arith, e, low));
+  moment = s.moment;
+}

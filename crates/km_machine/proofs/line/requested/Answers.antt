@@ -1,0 +1,47 @@
+use Rattle.std.proofs.Common.{◌∙◌, ◌∷◌, Ok, ap, sym, subst, arith}
+use Rattle.km_edge.specs.Streams.{WritesAll}
+use Rattle.km_model.specs.Follows.{all_happen, happens, told_answer}
+use Rattle.km_model.specs.Output.{answer_text, keyword}
+use Rattle.km_machine.specs.Lines.{SoFar}
+use Rattle.km_machine.specs.Machines.{Spent}
+use Rattle.km_machine.proofs.Lines.{allocation_plain, begun, further_at, is_place, none_further, not_at, one_more, plain_ran, request_unread, request_ticks, spent_less}
+use Rattle.km_machine.proofs.line.requested.Goals as goal
+
+pub returns-in-At-clause-runs : goal.returns-in-At-clause-runs
+returns-in-At-clause-runs g c = λ h f first.
+    let m = c.args.machine.now in
+    let n = m.core.parts.words in
+    let line = c.args.command.now in
+    let act = c.args.act in
+    let k = g.K.Sink.state c.args.sink.now in
+    let k' = g.K.Sink.state c.answer-written.new.sink in
+    let e = c.event-answer.ensures in
+    let text = subst (λ w. WritesAll k k' (answer_text n w h act c.event-answer.result) c.answer-written.result) c.keyword.ensures.word (c.answer-written.ensures n h act (request_unread act c.requires.request)) in
+    let one = one_more n (keyword line) h h m.core c.event-answer.new.self.core m.words c.event-answer.new.self.words k k k' (Ok tt) c.answer-written.result act c.event-answer.result
+    (begun (keyword line) m.core m.words h k f) (e.happens h f) e.spent.words (e.answer h f) text in
+    let newest = ap (λ x. record { act = act; answer = x } ∷ h) (sym (e.answer h f) ∙ c.in-At.is) in
+    plain_ran m.core c.acts.new.machine.core m.words c.acts.new.machine.words h line k (g.K.Sink.state c.acts.new.sink) c.acts.result act (allocation_plain line c.requires.allocation) first
+    (subst (λ l. SoFar n (keyword line) h (all_happen n (happens n h act) l) c.acts.new.machine.core c.acts.new.machine.words k (g.K.Sink.state c.acts.new.sink) c.acts.result)
+    (sym (further_at h (happens n h act) act c.in-At.start line newest))
+    (c.acts.ensures.so_far n (keyword line) h (happens n h act) k (record { request = act; before = h; newest = newest; first = first }) one))
+
+pub returns-in_default : goal.returns-in_default
+returns-in_default g c =
+    let m = c.args.machine.now in
+    let n = m.core.parts.words in
+    let line = c.args.command.now in
+    let act = c.args.act in
+    let k = g.K.Sink.state c.args.sink.now in
+    let k' = g.K.Sink.state c.answer-written.new.sink in
+    let e = c.event-answer.ensures in
+    record {
+      runs = λ h f first.
+          let text = subst (λ w. WritesAll k k' (answer_text n w h act c.event-answer.result) c.answer-written.result) c.keyword.ensures.word (c.answer-written.ensures n h act (request_unread act c.requires.request)) in
+          let one = one_more n (keyword line) h h m.core c.event-answer.new.self.core m.words c.event-answer.new.self.words k k k' (Ok tt) c.answer-written.result act c.event-answer.result
+          (begun (keyword line) m.core m.words h k f) (e.happens h f) e.spent.words (e.answer h f) text in
+          let none = sym (ap is_place (e.answer h f)) ∙ not_at c.event-answer.result c.in_default.not-At in
+          plain_ran m.core c.event-answer.new.self.core m.words c.event-answer.new.self.words h line k k' c.answer-written.result act (allocation_plain line c.requires.allocation) first
+          (subst (λ l. SoFar n (keyword line) h (all_happen n (happens n h act) l) c.event-answer.new.self.core c.event-answer.new.self.words k k' c.answer-written.result)
+          (sym (none_further h act (told_answer n h act) line none)) one);
+      spent = spent_less m.core c.event-answer.new.self.core m.words c.event-answer.new.self.words 1 16384 (subst (λ t. Spent m.core c.event-answer.new.self.core m.words c.event-answer.new.self.words 1 t) (request_ticks act c.requires.request) e.spent) (omega arith);
+    }

@@ -1,0 +1,297 @@
+//! One line.
+
+ghost use Rattle.std.specs.Prelude.{◌≡◌, ℕ, List, ◌+◌, ◌≤◌, ◌^◌, true, false, [], ◌∷◌, ◌++◌, length, Ok, Err, IfOk};
+ghost use Rattle.km_base.specs.declared.acts.Act.{Act};
+ghost use Rattle.km_edge.specs.Streams.{SinkState, WritesAll};
+ghost use Rattle.km_model.specs.declared.lines.Command.TheVariants as command;
+ghost use Rattle.km_model.specs.History.{History};
+ghost use Rattle.km_model.specs.Follows.{all_happen};
+ghost use Rattle.km_model.specs.Operands.{operand_value, task_or_refusal, then_do};
+ghost use Rattle.km_model.specs.Text.{refusal_text};
+ghost use Rattle.km_model.specs.Expansion.{first_acts, for_register as for_register_of, vfree_acts, world_after};
+ghost use Rattle.km_model.specs.Output.{keyword as keyword_of};
+ghost use Rattle.km_machine.specs.Machines.{For, HasRoom, RunsLine, Spent};
+ghost use Rattle.km_machine.specs.Lines.{SoFar, is_allocation, is_alone, is_memory, is_request, is_simple, acts_of, IsFew};
+
+use crate::behind::made;
+use crate::machine::Machine;
+use crate::{behind, operands, print, scans};
+use km_base::{Act, Addr, Answer, FileCmd, Refusal};
+use km_edge::{Failed, Sink, write_all};
+use km_model::{Base, Command, Operand, RegName};
+use km_text::Text;
+
+/// Writes the text of a refusal.
+fn refuse<K: Sink>(refusal: Refusal, sink: &mut K) -> Result<(), Failed>
+    ensures { WritesAll (K.state sink.old) (K.state sink.new) (refusal_text refusal) result }
+{
+    let mut text = Text::new();
+    km_text::refused(refusal, &mut text);
+    write_all(sink, text.bytes())
+}
+
+/// Refuses a register of a task that isn't live. It can be set where it can be read.
+fn live(machine: &Machine, reg: RegName) -> Result<(), Refusal>
+    ensures { (h : History) → For machine.now.core machine.now.words h → result ≡ then_do (task_or_refusal (world_after h) reg.task) (λ _. Ok tt) }
+{
+    let base = Base::Reg {
+        task: reg.task,
+        reg: reg.reg,
+    };
+    operands::value(machine, &Operand { base, plus: 0 })?;
+    Ok(())
+}
+
+/// The event that sets a register.
+fn set(machine: &Machine, reg: RegName, value: &Operand) -> Result<Act, Refusal>
+    ensures acts { (h : History) → For machine.now.core machine.now.words h → acts_of result ≡ first_acts (world_after h) (command.Set reg value.now) }
+    ensures simple { IfOk result (λ act. is_simple act ≡ true) }
+{
+    live(machine, reg)?;
+    Ok(Act::SetReg {
+        task: reg.task,
+        reg: reg.reg,
+        value: operands::value(machine, value)?,
+    })
+}
+
+/// The event that loads a word into a register.
+fn load(machine: &Machine, reg: RegName, addr: &Operand) -> Result<Act, Refusal>
+    ensures acts { (h : History) → For machine.now.core machine.now.words h → acts_of result ≡ first_acts (world_after h) (command.Load reg addr.now) }
+    ensures simple { IfOk result (λ act. is_simple act ≡ true) }
+{
+    live(machine, reg)?;
+    Ok(Act::Load {
+        task: reg.task,
+        reg: reg.reg,
+        addr: operands::value(machine, addr)?,
+    })
+}
+
+/// The event that stores a word.
+fn store(machine: &Machine, addr: &Operand, value: &Operand) -> Result<Act, Refusal>
+    ensures acts { (h : History) → For machine.now.core machine.now.words h → acts_of result ≡ first_acts (world_after h) (command.Store addr.now value.now) }
+    ensures simple { IfOk result (λ act. is_simple act ≡ true) }
+{
+    Ok(Act::Store {
+        addr: operands::value(machine, addr)?,
+        value: operands::value(machine, value)?,
+    })
+}
+
+/// The event of a line that makes one, or the refusal of what is missing.
+fn alone(machine: &Machine, command: &Command) -> Result<Act, Refusal>
+    requires { is_alone command.now ≡ true }
+    ensures acts { (h : History) → For machine.now.core machine.now.words h → acts_of result ≡ first_acts (world_after h) command.now }
+    ensures simple { IfOk result (λ act. is_simple act ≡ true) }
+{
+    match *command {
+        Command::Section { name, words } => Ok(Act::Section { name, words }),
+        Command::Task(name) => Ok(Act::TaskStart(name)),
+        Command::Exit(name) => Ok(Act::TaskExit(name)),
+        Command::Set { reg, value } => set(machine, reg, &value),
+        Command::Load { reg, addr } => load(machine, reg, &addr),
+        Command::Store { addr, value } => store(machine, &addr, &value),
+        Command::Erase(addr) => Ok(Act::Store {
+            addr: operands::value(machine, &addr)?,
+            value: 0,
+        }),
+        Command::Kfree(addr) => Ok(Act::Kfree(operands::value(machine, &addr)?)),
+        Command::FreePages(addr) => Ok(Act::FreePages(operands::value(machine, &addr)?)),
+        Command::FreePart { addr, size } => Ok(Act::FreePart {
+            addr: operands::value(machine, &addr)?,
+            size,
+        }),
+        Command::NotLeak(addr) => Ok(Act::NotLeak(operands::value(machine, &addr)?)),
+        Command::Ignore(addr) => Ok(Act::Ignore(operands::value(machine, &addr)?)),
+        Command::NoScan(addr) => Ok(Act::NoScan(operands::value(machine, &addr)?)),
+        Command::ScanArea { addr, size } => Ok(Act::ScanArea {
+            addr: operands::value(machine, &addr)?,
+            size,
+        }),
+        Command::TransientLeak(addr) => Ok(Act::TransientLeak(operands::value(machine, &addr)?)),
+        Command::Write(Some(word)) => Ok(Act::File(word)),
+        Command::Write(None) => Err(Refusal::Invalid),
+        Command::Begin => Ok(Act::File(FileCmd::Scan)),
+        _ => unreachable!(),
+    }
+}
+
+/// Runs a line that makes one simple event, if no operand is missing.
+fn run_alone<K: Sink>(machine: &mut Machine, command: &Command, sink: &mut K) -> Result<(), Failed>
+    requires alone { is_alone command.now ≡ true }
+    requires room { HasRoom machine.old.core machine.old.words 1 0 }
+    ensures runs { (h : History) → For machine.old.core machine.old.words h → RunsLine machine.old.core machine.new.core machine.old.words machine.new.words h command.now (K.state sink.old) (K.state sink.new) result }
+    ensures spent { Spent machine.old.core machine.new.core machine.old.words machine.new.words 1 0 }
+{
+    match alone(machine, command) {
+        Ok(act) => made(machine, act, Ok(()), sink),
+        Err(refusal) => refuse(refusal, sink),
+    }
+}
+
+/// An act, unless it is for a register of a task that isn't live.
+fn for_register(machine: &Machine, reg: Option<RegName>, act: Act) -> Result<Act, Refusal>
+    ensures acts { (h : History) → For machine.now.core machine.now.words h → acts_of result ≡ for_register_of (world_after h) reg act }
+    ensures same { IfOk result (λ a. a ≡ act) }
+{
+    match reg {
+        Some(reg) => {
+            live(machine, reg)?;
+            Ok(act)
+        }
+        None => Ok(act),
+    }
+}
+
+/// The request of a line for an allocation, or the refusal of its register.
+fn request(machine: &Machine, command: &Command) -> Result<Act, Refusal>
+    requires { is_allocation command.now ≡ true }
+    ensures acts { (h : History) → For machine.now.core machine.now.words h → acts_of result ≡ first_acts (world_after h) command.now }
+    ensures request { IfOk result (λ act. is_request act ≡ true) }
+{
+    match *command {
+        Command::Kmalloc { size, reg } => for_register(machine, reg, Act::Kmalloc(size)),
+        Command::Kzalloc { size, reg } => for_register(machine, reg, Act::Kmalloc(size)),
+        Command::Pages { count, reg } => for_register(machine, reg, Act::Pages(count)),
+        Command::Vmalloc { size, reg } => for_register(machine, reg, Act::VmTake(size)),
+        Command::BootMem { size, reg } => for_register(machine, reg, Act::BootMem(size)),
+        _ => unreachable!(),
+    }
+}
+
+/// The first word of a line for an allocation.
+fn keyword(command: &Command) -> &'static [u8]
+    requires { is_allocation command.now ≡ true }
+    ensures word { result.now ≡ keyword_of command.now }
+    ensures some { 1 ≤ length result.now }
+    ensures short { length result.now ≤ 16 }
+{
+    match *command {
+        Command::Kmalloc { .. } => b"kmalloc",
+        Command::Kzalloc { .. } => b"kzalloc",
+        Command::Pages { .. } => b"pages",
+        Command::Vmalloc { .. } => b"vmalloc",
+        Command::BootMem { .. } => b"bootmem",
+        _ => unreachable!(),
+    }
+}
+
+/// Makes the request of a line for an allocation, and what is behind it.
+fn requested<K: Sink>(
+    machine: &mut Machine,
+    command: &Command,
+    act: Act,
+    sink: &mut K,
+) -> Result<(), Failed>
+    requires allocation { is_allocation command.now ≡ true }
+    requires request { is_request act ≡ true }
+    requires room { HasRoom machine.old.core machine.old.words (2 ^ 14) 0 }
+    ensures runs { (h : History) → For machine.old.core machine.old.words h → Ok (act ∷ []) ≡ first_acts (world_after h) command.now → RunsLine machine.old.core machine.new.core machine.old.words machine.new.words h command.now (K.state sink.old) (K.state sink.new) result }
+    ensures spent { Spent machine.old.core machine.new.core machine.old.words machine.new.words (2 ^ 14) 0 }
+{
+    let answer = machine.event(act);
+    let written = print::answer(keyword(command), answer, sink);
+    match answer {
+        Answer::At(start) => behind::acts(machine, command, start, written, sink),
+        _ => written,
+    }
+}
+
+/// Runs a line for an allocation.
+fn allocate<K: Sink>(machine: &mut Machine, command: &Command, sink: &mut K) -> Result<(), Failed>
+    requires allocation { is_allocation command.now ≡ true }
+    requires room { HasRoom machine.old.core machine.old.words (2 ^ 14) 0 }
+    ensures runs { (h : History) → For machine.old.core machine.old.words h → RunsLine machine.old.core machine.new.core machine.old.words machine.new.words h command.now (K.state sink.old) (K.state sink.new) result }
+    ensures spent { Spent machine.old.core machine.new.core machine.old.words machine.new.words (2 ^ 14) 0 }
+{
+    match request(machine, command) {
+        Ok(act) => requested(machine, command, act, sink),
+        Err(refusal) => refuse(refusal, sink),
+    }
+}
+
+/// Runs `print`.
+fn show<K: Sink>(machine: &Machine, operand: &Operand, sink: &mut K) -> Result<(), Failed>
+    ensures { (h : History) → For machine.now.core machine.now.words h → RunsLine machine.now.core machine.now.core machine.now.words machine.now.words h (command.Print operand.now) (K.state sink.old) (K.state sink.new) result }
+{
+    match operands::value(machine, operand) {
+        Ok(value) => {
+            let mut text = Text::new();
+            km_text::value(value, &mut text);
+            write_all(sink, text.bytes())
+        }
+        Err(refusal) => refuse(refusal, sink),
+    }
+}
+
+/// Runs a read of the file.
+fn read<K: Sink>(machine: &mut Machine, sink: &mut K) -> Result<(), Failed>
+    requires { HasRoom machine.old.core machine.old.words 1 0 }
+    ensures runs { (h : History) → For machine.old.core machine.old.words h → RunsLine machine.old.core machine.new.core machine.old.words machine.new.words h command.Read (K.state sink.old) (K.state sink.new) result }
+    ensures spent { Spent machine.old.core machine.new.core machine.old.words machine.new.words 1 0 }
+{
+    match machine.event(Act::Read) {
+        Answer::Done => print::listing(machine, sink),
+        answer => print::answer(b"read", answer, sink),
+    }
+}
+
+/// Clears the slot of an area, and then gives the area back.
+fn give<K: Sink>(machine: &mut Machine, start: u64, sink: &mut K) -> Result<(), Failed>
+    requires { HasRoom machine.old.core machine.old.words 2 0 }
+    ensures so_far { (h : History) → For machine.old.core machine.old.words h → SoFar machine.old.core.parts.words [] h (all_happen machine.old.core.parts.words h (vfree_acts (world_after h) start)) machine.new.core machine.new.words (K.state sink.old) (K.state sink.new) result }
+    ensures spent { Spent machine.old.core machine.new.core machine.old.words machine.new.words 2 0 }
+{
+    match machine.core.vm_area(Addr(start)) {
+        Some(area) => {
+            let act = Act::Store {
+                addr: behind::slot_word(area.slot),
+                value: 0,
+            };
+            let written = made(machine, act, Ok(()), sink);
+            made(machine, Act::VmGive(start), written, sink)
+        }
+        None => made(machine, Act::VmGive(start), Ok(()), sink),
+    }
+}
+
+/// Runs `vfree`.
+fn give_area<K: Sink>(machine: &mut Machine, operand: &Operand, sink: &mut K) -> Result<(), Failed>
+    requires { HasRoom machine.old.core machine.old.words 2 0 }
+    ensures runs { (h : History) → For machine.old.core machine.old.words h → RunsLine machine.old.core machine.new.core machine.old.words machine.new.words h (command.Vfree operand.now) (K.state sink.old) (K.state sink.new) result }
+    ensures spent { Spent machine.old.core machine.new.core machine.old.words machine.new.words 2 0 }
+{
+    match operands::value(machine, operand) {
+        Ok(start) => give(machine, start, sink),
+        Err(refusal) => refuse(refusal, sink),
+    }
+}
+
+impl Machine {
+    /// Runs a line. What it is to print is written, or written up to a fault.
+    pub fn line<K: Sink>(&mut self, command: &Command, sink: &mut K) -> Result<(), Failed>
+        requires later { is_memory command.now ≡ false }
+        requires few { IsFew command.now }
+        requires room { HasRoom self.old.core self.old.words (2 ^ 38) 3600000 }
+        ensures runs { (h : History) → For self.old.core self.old.words h → RunsLine self.old.core self.new.core self.old.words self.new.words h command.now (K.state sink.old) (K.state sink.new) result }
+        ensures spent { Spent self.old.core self.new.core self.old.words self.new.words (2 ^ 38) 3600000 }
+    {
+        match *command {
+            Command::Memory(_) => unreachable!(),
+            Command::Write(Some(FileCmd::Scan)) => scans::scan(self, sink),
+            Command::Step(n) => scans::steps(self, n, sink),
+            Command::Finish => scans::finish(self, sink),
+            Command::Tick(n) => scans::tick(self, n, sink),
+            Command::Print(value) => show(self, &value, sink),
+            Command::Read => read(self, sink),
+            Command::Vfree(addr) => give_area(self, &addr, sink),
+            Command::Kmalloc { .. }
+            | Command::Kzalloc { .. }
+            | Command::Pages { .. }
+            | Command::Vmalloc { .. }
+            | Command::BootMem { .. } => allocate(self, command, sink),
+            _ => run_alone(self, command, sink),
+        }
+    }
+}

@@ -1,0 +1,167 @@
+//! Lines that make scanner steps or move time.
+
+ghost use Rattle.std.specs.Prelude.{◌≡◌, ℕ, ◌+◌, ◌-◌, ◌<◌, ◌≤◌, ◌^◌, ◌++◌, List, Some, IfSome};
+ghost use Rattle.km_base.specs.declared.acts.Act.TheVariants as act;
+ghost use Rattle.km_base.specs.declared.acts.FileCmd.TheVariants as word;
+ghost use Rattle.km_edge.specs.Streams.{SinkState, WritesAll};
+ghost use Rattle.km_model.specs.declared.lines.Command.TheVariants as command;
+ghost use Rattle.km_model.specs.Expansion.{due_by as due_in, history_at, newest_answer, world_after};
+ghost use Rattle.km_model.specs.Follows.{happens};
+ghost use Rattle.km_model.specs.History.{History};
+ghost use Rattle.km_machine.specs.Machines.{For, HasRoom, RunsLine, Spent};
+ghost use Rattle.km_machine.specs.Scans.{GoesOn, Scanned, ScansUntil, Stepped, shown};
+
+use crate::machine::Machine;
+use crate::print;
+use km_base::{Act, Answer, FileCmd};
+use km_edge::{Failed, Sink};
+
+/// More steps than a scan has: it loads at most five times the words of the greatest memory.
+const MOST_STEPS: u64 = 33_554_432;
+
+/// More automatic scans than fall due in an hour, a second apart.
+const MOST_SCANS: u64 = 3_602;
+
+/// At most so many scanner steps; the last is the one that doesn't load.
+pub fn steps<K: Sink>(machine: &mut Machine, n: u64, sink: &mut K) -> Result<(), Failed>
+    requires few { n ≤ 1000000000 }
+    requires room { HasRoom machine.old.core machine.old.words n 0 }
+    ensures runs { (h : History) → For machine.old.core machine.old.words h → RunsLine machine.old.core machine.new.core machine.old.words machine.new.words h (command.Step n) (K.state sink.old) (K.state sink.new) result }
+    ensures spent { Spent machine.old.core machine.new.core machine.old.words machine.new.words n 0 }
+{
+    let last = step_on(machine, n);
+    put(last, sink)
+}
+
+/// Scanner steps until no scan runs; one, which is refused, if none ran.
+pub fn finish<K: Sink>(machine: &mut Machine, sink: &mut K) -> Result<(), Failed>
+    requires { HasRoom machine.old.core machine.old.words (2 ^ 25) 0 }
+    ensures runs { (h : History) → For machine.old.core machine.old.words h → RunsLine machine.old.core machine.new.core machine.old.words machine.new.words h command.Finish (K.state sink.old) (K.state sink.new) result }
+    ensures spent { Spent machine.old.core machine.new.core machine.old.words machine.new.words (2 ^ 25) 0 }
+{
+    let last = step_on(machine, MOST_STEPS);
+    put(last, sink)
+}
+
+/// A whole scan, if none runs.
+pub fn scan<K: Sink>(machine: &mut Machine, sink: &mut K) -> Result<(), Failed>
+    requires { HasRoom machine.old.core machine.old.words (2 ^ 25 + 1) 0 }
+    ensures runs { (h : History) → For machine.old.core machine.old.words h → RunsLine machine.old.core machine.new.core machine.old.words machine.new.words h (command.Write (Some word.Scan)) (K.state sink.old) (K.state sink.new) result }
+    ensures spent { Spent machine.old.core machine.new.core machine.old.words machine.new.words (2 ^ 25 + 1) 0 }
+{
+    let begun = machine.event(Act::File(FileCmd::Scan));
+    let last = scan_on(machine, begun);
+    put(last, sink)
+}
+
+/// Moves time by so many milliseconds, over the automatic scans that fall due.
+pub fn tick<K: Sink>(machine: &mut Machine, n: u64, sink: &mut K) -> Result<(), Failed>
+    requires few { n ≤ 3600000 }
+    requires room { HasRoom machine.old.core machine.old.words (2 ^ 37) n }
+    ensures runs { (h : History) → For machine.old.core machine.old.words h → RunsLine machine.old.core machine.new.core machine.old.words machine.new.words h (command.Tick n) (K.state sink.old) (K.state sink.new) result }
+    ensures spent { Spent machine.old.core machine.new.core machine.old.words machine.new.words (2 ^ 37) n }
+{
+    let target = machine.core.now() + n;
+    let written = automatic_scans(machine, target, sink);
+    move_to(machine, target);
+    written
+}
+
+/// Makes the automatic scans that are due by a moment.
+fn automatic_scans<K: Sink>(machine: &mut Machine, target: u64, sink: &mut K) -> Result<(), Failed>
+    requires ahead { machine.old.core.parts.settings.now ≤ target }
+    requires few { target ≤ machine.old.core.parts.settings.now + 3600000 }
+    requires room { HasRoom machine.old.core machine.old.words (2 ^ 37) (target - machine.old.core.parts.settings.now) }
+    ensures runs { (h : History) → For machine.old.core machine.old.words h → ScansUntil machine.new.core machine.new.words machine.old.core.parts.words target h (K.state sink.old) (K.state sink.new) result }
+    ensures spent { Spent machine.old.core machine.new.core machine.old.words machine.new.words (2 ^ 37 - 1) (target - machine.old.core.parts.settings.now) }
+{
+    let mut written = Ok(());
+    for _ in 0..MOST_SCANS {
+        let Some(due) = due_by(machine, target) else {
+            return written;
+        };
+        let last = automatic_scan(machine, due);
+        written = put_behind(written, last, sink);
+    }
+    // No hour has so many.
+    written
+}
+
+/// Makes the automatic scan that is due at a moment, and gives the last answer.
+fn automatic_scan(machine: &mut Machine, due: u64) -> Answer
+    requires { HasRoom machine.old.core machine.old.words (2 ^ 25 + 2) (due - machine.old.core.parts.settings.now) }
+    ensures scanned { (h : History) → For machine.old.core machine.old.words h → Scanned machine.new.core machine.new.words machine.old.core.parts.words h (happens machine.old.core.parts.words (history_at machine.old.core.parts.words h due) act.AutoBegin) result }
+    ensures spent { Spent machine.old.core machine.new.core machine.old.words machine.new.words (2 ^ 25 + 2) (due - machine.old.core.parts.settings.now) }
+{
+    move_to(machine, due);
+    let begun = machine.event(Act::AutoBegin);
+    scan_on(machine, begun)
+}
+
+/// When the next automatic scan is due, if it is by a moment.
+fn due_by(machine: &Machine, target: u64) -> Option<u64>
+    ensures due { (h : History) → For machine.now.core machine.now.words h → result ≡ due_in target (world_after h) }
+    ensures by { IfSome result (λ m. m ≤ target) }
+{
+    match machine.core.auto_at() {
+        Some(due) if due <= target => Some(due),
+        _ => None,
+    }
+}
+
+/// Moves time to a moment that isn't before it.
+fn move_to(machine: &mut Machine, moment: u64)
+    requires { HasRoom machine.old.core machine.old.words 1 (moment - machine.old.core.parts.settings.now) }
+    ensures moved { (h : History) → For machine.old.core machine.old.words h → For machine.new.core machine.new.words (history_at machine.old.core.parts.words h moment) }
+    ensures spent { Spent machine.old.core machine.new.core machine.old.words machine.new.words 1 (moment - machine.old.core.parts.settings.now) }
+{
+    let wait = moment.saturating_sub(machine.core.now());
+    let _ = machine.event(Act::Tick(wait));
+}
+
+/// Makes a whole scan if an event began one, by its answer, and gives the last answer.
+fn scan_on(machine: &mut Machine, begun: Answer) -> Answer
+    requires { HasRoom machine.old.core machine.old.words (2 ^ 25) 0 }
+    ensures scanned { (first h : History) → For machine.old.core machine.old.words h → newest_answer h ≡ Some begun → GoesOn machine.old.core.parts.words first (shown begun) h
+        → Scanned machine.new.core machine.new.words machine.old.core.parts.words first h result }
+    ensures spent { Spent machine.old.core machine.new.core machine.old.words machine.new.words (2 ^ 25) 0 }
+{
+    match begun {
+        Answer::Done => step_on(machine, MOST_STEPS),
+        refused => refused,
+    }
+}
+
+/// Makes at most so many scanner steps, and gives the answer of the one that doesn't load, or `Done`.
+fn step_on(machine: &mut Machine, most: u64) -> Answer
+    requires { HasRoom machine.old.core machine.old.words most 0 }
+    ensures stepped { (h : History) → For machine.old.core machine.old.words h → Stepped machine.new.core machine.new.words machine.old.core.parts.words h most result }
+    ensures spent { Spent machine.old.core machine.new.core machine.old.words machine.new.words most 0 }
+{
+    for _ in 0..most {
+        match machine.event(Act::Step) {
+            Answer::Loaded { .. } => {}
+            last => return last,
+        }
+    }
+    Answer::Done
+}
+
+/// Writes what an answer prints. None of these is an address, so that the word isn't written.
+fn put<K: Sink>(answer: Answer, sink: &mut K) -> Result<(), Failed>
+    ensures { WritesAll (K.state sink.old) (K.state sink.new) (shown answer) result }
+{
+    print::answer(b"step", answer, sink)
+}
+
+/// Writes what an answer prints, unless an earlier write failed.
+fn put_behind<K: Sink>(
+    written: Result<(), Failed>,
+    answer: Answer,
+    sink: &mut K,
+) -> Result<(), Failed>
+    ensures { (k : SinkState) (text : List ℕ) → WritesAll k (K.state sink.old) text written → WritesAll k (K.state sink.new) (text ++ shown answer) result }
+{
+    written?;
+    put(answer, sink)
+}
