@@ -1,7 +1,8 @@
 #!/usr/bin/env bash
 # Prints how fast the program reads: megabytes a second over 64 MiB of line feeds, and of comments,
 # and how many million lines of a generated script are parsed a second; how long the tracker takes to
-# register and find blocks, with the memory that is resident; and the slab host's calls.
+# register and find blocks, with the memory that is resident; the slab host's calls; and two scans of the
+# largest memory.
 set -eu
 cd "$(dirname "$0")/.."
 program=crates/kmemleak/out/kmemleak
@@ -28,7 +29,8 @@ fi
 before=$(date +%s%N)
 lines=$("$parser" | cut -d' ' -f1)
 after=$(date +%s%N)
-echo "lines of a generated script, made and read: $((lines * 1000 / (after - before))) million a second"
+rate=$((lines * 10000 / (after - before)))
+echo "lines of a generated script, made once and read twenty times: $((rate / 10)).$((rate % 10)) million a second"
 tracker=crates/bench_track/out/bench_track
 if [ ! -x "$tracker" ]; then
   (cd crates/bench_track && rt run </dev/null >/dev/null)
@@ -42,4 +44,11 @@ if [ ! -x "$slab" ]; then
 fi
 for blocks in 100000 500000; do
   /usr/bin/time -f "of kmalloc and kfree with up to $blocks live blocks in %e s" "$slab" "$blocks" 2>&1 | paste -sd' '
+done
+scanner=crates/bench_core/out/bench_core
+if [ ! -x "$scanner" ]; then
+  (cd crates/bench_core && rt run </dev/null >/dev/null)
+fi
+for kind in zeros chain large; do
+  /usr/bin/time -f "of two scans, $kind, in %e s, %M KB resident" "$scanner" "$kind" 2>&1 | paste -sd' '
 done
