@@ -6,8 +6,8 @@ ghost use Rattle.km_machine.specs.Machines.{For};
 ghost use Rattle.km_engine.specs.Session.{HasRoomToRun, SpendsOn};
 ghost use Rattle.km_engine.specs.Steps.{IsFit, IsFitLine, IsMemory, Refuses, Runs};
 
-use km_machine::Machine;
 use km_edge::{Sink, write_all};
+use km_machine::Machine;
 use km_model::{Command, Line, Status};
 use km_script::read_line;
 use km_text::Text;
