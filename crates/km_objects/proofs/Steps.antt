@@ -15,10 +15,8 @@ use Rattle.km_track.specs.Tracker.{Live, Tracker, tracked_in}
 use Rattle.km_verdict.specs.Listing.{flagged}
 use Rattle.km_scan.specs.declared.sweep.Sweep.{Sweep}
 use Rattle.km_scan.specs.declared.places.At.{At}
-use Rattle.km_scan.specs.declared.scanner.Want.{Want}
-use Rattle.km_scan.specs.declared.scanner.Want.TheVariants.{Idle, Load}
 use Rattle.km_scan.specs.Places.{place_of}
-use Rattle.km_scan.specs.Stand.{Stand, due_in, load_told, scanning_of, seen, sweep_told, want_of}
+use Rattle.km_scan.specs.Stand.{IsDue, Stand, due_in, load_told, running_in, scanning_of, seen, sweep_told}
 use Rattle.km_scan.proofs.InState.{blocks_step, due_step, moved_step}
 use Rattle.km_objects.specs.Objects.{Agree, AreOf, Objects}
 use Rattle.km_objects.specs.Steps.{IsStep}
@@ -161,9 +159,14 @@ has_moved t u k j roll r none w running place queue ended = on (next_in (seen k.
         let h = place p e in
         record { w = w; p = p; at = h.1; running = running; next = e; place = h.2; ready = h.3; queue = queue p e }
 
--- what it wants then
-pub moved_wants : (t m : Tracker) (k n : Stand) (roll : Roll) (v : Moved t k roll m n) (r : Want) → ((w : Sweep) → n.sweep ≡ Some w → r ≡ want_of (due_in w m roll)) → r ≡ Load (record { 0 = v.p.word })
-moved_wants t m k n roll v r want = want (record v.w { ready = Some v.at }) (ap (λ (x : Stand). x.sweep) v.ready) ∙ ap (λ (p : Place). Load (record { 0 = p.word })) v.place
+-- the load that is due then
+pub moved_due : (t m : Tracker) (k n : Stand) (roll : Roll) (v : Moved t k roll m n) (at : At) → IsDue n at m roll → place_of at ≡ v.p
+moved_due t m k n roll v at d =
+    let there : Some d.sweep ≡ Some (record v.w { ready = Some v.at }) = sym d.running ∙ ap (λ (x : Stand). x.sweep) v.ready in
+    let same : d.sweep ≡ record v.w { ready = Some v.at } = cc in
+    let due : Some (place_of v.at) ≡ Some (place_of at) = sym (ap (λ (w : Sweep). due_in w m roll) same) ∙ d.place in
+    let is : place_of at ≡ place_of v.at = cc in
+    is ∙ v.place
 
 -- the load that it moved to
 pub moved_loads : (t m u : Tracker) (k n j : Stand) (roll : Roll) (v : Moved t k roll m n) (a : ℕ) (answer : Answer) → v.p.word ≡ a → answer ≡ Loaded a (value_of answer)
@@ -213,14 +216,20 @@ ends_step t m u k j roll w scan began new running next number stand queue begun 
     (subst (λ (x : Answer). IsStep (record { tracker = t; stand = k }) roll x (record { tracker = flagged k.begun (record t { queue = [] }); stand = record k { sweep = None } })) (λ i. Ended (sym number i) (sym told i))
     (ends_in t k roll w running next)))
 
--- no scan is running
-pub is_idle : (x : Option Sweep) (f : Sweep → Option Place) (r : Want) → ((w : Sweep) → x ≡ Some w → r ≡ want_of (f w)) → r ≡ Idle → x ≡ None
-is_idle None f r want e = refl
-is_idle (Some w) f r want e = absurd (wants (f w) (sym e ∙ want w refl))
+-- a scan is running, or none is
+pub is_running : (k : Stand) (n : ℕ) → running_in k ≡ Some n → (w : Sweep) × (k.sweep ≡ Some w)
+is_running k n e = on k.sweep refl e
   where
-    wants : (p : Option Place) → Idle ≡ want_of p → ⊥
-    wants None h = let z : ⊥ = cc in z
-    wants (Some p) h = let z : ⊥ = cc in z
+    on : (x : Option Sweep) → k.sweep ≡ x → (elim x as (λ _. Option ℕ) [ None ↦ None | Some _ ↦ Some k.scans ]) ≡ Some n → (w : Sweep) × (k.sweep ≡ Some w)
+    on None s h = absurd (let z : ⊥ = cc in z)
+    on (Some w) s h = (w, s)
+
+pub is_idle : (k : Stand) → running_in k ≡ None → k.sweep ≡ None
+is_idle k e = on k.sweep e
+  where
+    on : (x : Option Sweep) → (elim x as (λ _. Option ℕ) [ None ↦ None | Some _ ↦ Some k.scans ]) ≡ None → x ≡ None
+    on None h = refl
+    on (Some w) h = absurd (let z : ⊥ = cc in z)
 
 pub idle_step : (t : Tracker) (k : Stand) (roll : Roll) → k.sweep ≡ None → Agree (record { tracker = t; stand = k }) roll
     → IsStep (record { tracker = t; stand = k }) roll (Refused NoScanRunning) (record { tracker = t; stand = k })

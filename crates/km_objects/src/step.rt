@@ -8,40 +8,39 @@ ghost use Rattle.km_model.specs.Past.{Place, is_loaded, is_refused};
 ghost use Rattle.km_objects.specs.Objects.{Agree, IfLoaded};
 ghost use Rattle.km_objects.specs.Steps.{IsStep};
 ghost use Rattle.km_scan.specs.Places.{place_of};
-ghost use Rattle.km_scan.specs.Stand.{Fits, due_in, load_told, scanning_of, seen, sweep_told};
-ghost use Rattle.km_scan.specs.declared.places.At.{At};
+ghost use Rattle.km_scan.specs.Stand.{Fits, IsDue, due_in, load_told, scanning_of, seen, sweep_told};
 ghost use Rattle.km_scan.specs.declared.sweep.Sweep.{Sweep};
 ghost use Rattle.km_state.specs.StateNext.{next_in};
+ghost use Rattle.km_tasks.specs.Roll.{Roll};
 ghost use Rattle.km_words.specs.Told.{IsGiven, loaded_in};
 
-use km_base::{Addr, Answer, Refusal};
+use km_base::{Answer, Refusal};
 use km_map::ObjectMap;
-use km_scan::{Scanner, Want};
+use km_scan::{At, Scanner};
 use km_tasks::Tasks;
 use km_track::Track;
 use km_verdict::flag;
 use km_words::Words;
 
-/// Loads the word that the scanner wants, and tells it the value.
+/// Loads the word that is due, and gives the scanner its value.
 fn load<M: ObjectMap, W: Words>(
     track: &mut Track<M>,
     scanner: &mut Scanner,
-    tasks: &Tasks,
     words: &mut W,
-    a: Addr,
+    at: At,
 ) -> Answer
-    requires fits { Fits scanner.old track.old tasks.now }
-    requires due { (w : Sweep) × (p : Place) × (scanner.old.sweep ≡ Some w) × (due_in w track.old tasks.now ≡ Some p) }
-    requires word { is_word (W.told words.old).size a.0 ≡ true }
-    ensures answer { result ≡ Loaded a.0 (value_of result) }
+    requires due { (roll : Roll) × IsDue scanner.old at track.old roll }
+    requires word { is_word (W.told words.old).size (place_of at).word ≡ true }
+    ensures answer { result ≡ Loaded (place_of at).word (value_of result) }
     ensures accepted { is_refused result ≡ false }
-    ensures sweep { (w : Sweep) (p : Place) → scanner.old.sweep ≡ Some w → due_in w track.old tasks.now ≡ Some p → (at : At) × (place_of at ≡ p) × (scanner.new ≡ record scanner.old { sweep = Some (sweep_told w at (value_of result) track.old) }) }
-    ensures track { (w : Sweep) (p : Place) → scanner.old.sweep ≡ Some w → due_in w track.old tasks.now ≡ Some p → track.new ≡ load_told scanner.old.stacks w p (value_of result) track.old tasks.now }
-    ensures agree { Agree (record { tracker = track.new; stand = scanner.new }) tasks.now }
-    ensures loaded { IfLoaded result (λ at value. (value < 2 ^ 64) × IsGiven (W.told words.old).given at value × IsGiven (W.told words.old).memory at value × (W.told words.new ≡ loaded_in (W.told words.old) at value)) }
+    ensures sweep { (w : Sweep) → scanner.old.sweep ≡ Some w → scanner.new ≡ record scanner.old { sweep = Some (sweep_told w at (value_of result) track.old) } }
+    ensures track { (w : Sweep) (roll : Roll) → scanner.old.sweep ≡ Some w → track.new ≡ load_told scanner.old.stacks w (place_of at) (value_of result) track.old roll }
+    ensures agree { (roll : Roll) → Fits scanner.old track.old roll → IsDue scanner.old at track.old roll → Agree (record { tracker = track.new; stand = scanner.new }) roll }
+    ensures loaded { IfLoaded result (λ a value. (value < 2 ^ 64) × IsGiven (W.told words.old).given a value × IsGiven (W.told words.old).memory a value × (W.told words.new ≡ loaded_in (W.told words.old) a value)) }
 {
+    let a = at.word();
     let value = words.load(a);
-    scanner.told(track, tasks, value);
+    scanner.take(track, at, value);
     Answer::Loaded { addr: a.0, value }
 }
 
@@ -67,10 +66,10 @@ fn load_next<M: ObjectMap, W: Words>(
             new: flag(track, scanner.began_at()),
         };
     }
-    match scanner.want(track, tasks) {
-        Want::Load(a) => load(track, scanner, tasks, words, a),
-        Want::Move | Want::Idle => unreachable!(),
-    }
+    let Some(at) = scanner.due(track, tasks) else {
+        unreachable!()
+    };
+    load(track, scanner, words, at)
 }
 
 /// A load of the running scan, or its end.
@@ -88,9 +87,11 @@ pub fn step<M: ObjectMap, W: Words>(
     ensures same_track { is_refused result ≡ true → track.new ≡ track.old }
     ensures same_scanner { is_refused result ≡ true → scanner.new ≡ scanner.old }
 {
-    match scanner.want(track, tasks) {
-        Want::Load(a) => load(track, scanner, tasks, words, a),
-        Want::Move => load_next(track, scanner, tasks, words),
-        Want::Idle => Answer::Refused(Refusal::NoScanRunning),
+    if let Some(at) = scanner.due(track, tasks) {
+        return load(track, scanner, words, at);
+    }
+    match scanner.running() {
+        Some(_) => load_next(track, scanner, tasks, words),
+        None => Answer::Refused(Refusal::NoScanRunning),
     }
 }

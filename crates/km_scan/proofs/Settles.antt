@@ -1,5 +1,5 @@
 use Rattle.std.proofs.Common.{◌≡◌, ℕ, ◌+◌, Bool, true, false, ◌&&◌, ◌||◌, not, cond, ltb, List, [], ◌∷◌, ◌++◌, map, Option, Some, None, if◌then◌else◌, refl, sym, ap, ◌∙◌, subst, arith}
-use Rattle.std.specs.Prelude.{find, ◌==◌}
+use Rattle.std.specs.Prelude.{find, ◌==◌, IfSome, option_map}
 use Rattle.std.proofs.lemmas.Bool.{ne_eqb, eqb-false, ltb-false, le-ltb}
 use Rattle.km_links.specs.Chains.{is_in}
 use Rattle.km_record.specs.declared.kinds.RecId.{RecId}
@@ -19,7 +19,7 @@ use Rattle.km_scan.specs.declared.places.Cursor.{Cursor}
 use Rattle.km_scan.specs.declared.places.Cursor.TheVariants.{Start, Last, Behind}
 use Rattle.km_scan.specs.declared.sweep.Sweep.{Sweep}
 use Rattle.km_scan.specs.Places.{cursor_of, place_of}
-use Rattle.km_scan.specs.Stand.{FitsAt, FitsCursor, FitsDue, FitsSweep, due_in, going_on, load_told, scanning_of, seen, sweep_told}
+use Rattle.km_scan.specs.Stand.{FitsAt, FitsCursor, FitsDue, FitsSweep, IsDue, Stand, due_in, going_on, load_told, scanning_of, seen, sweep_told}
 use Rattle.km_scan.proofs.Kept.{Kept, at_kept, cursor_kept, queue_at_out, queue_kept}
 use Rattle.km_scan.proofs.Moves.{none_changed}
 
@@ -37,6 +37,11 @@ going_next stacks w t roll (Behind pass gen) p c f e = absurd (let z : ⊥ = cc 
 
 pub due_next : (stacks : Bool) (w : Sweep) (t : Tracker) (roll : Roll) (p : Place) → FitsSweep stacks w t roll → w.ready ≡ None → due_in w t roll ≡ Some p → next_in (seen stacks t roll) (scanning_of t w) ≡ Some p
 due_next stacks w t roll p f r e = going_next stacks w t roll w.cursor p refl f.cursor (sym (ap (λ (o : Option At). elim o as (λ _. Option Place) [ None ↦ going_on (tracked_in t) roll.tasks (cursor_of w.cursor) | Some at ↦ Some (place_of at) ]) r) ∙ e)
+
+-- a load that is due, by its place
+pub is_due : (o : Option At) (s : Stand) (w : Sweep) (t : Tracker) (roll : Roll) → s.sweep ≡ Some w → option_map place_of o ≡ due_in w t roll → FitsDue s.stacks o t roll → IfSome o (λ at. IsDue s at t roll)
+is_due None s w t roll r e f = tt
+is_due (Some at) s w t roll r e f = record { sweep = w; running = r; place = sym e; fits = f }
 
 -- a scanner that moved on
 pub moved_fits : (stacks : Bool) (w : Sweep) (t u : Tracker) (roll : Roll) (at : At) → FitsSweep stacks w t roll → u ≡ record t { queue = queue_at (scanning_of t w) (place_of at) } → FitsDue stacks (Some at) u roll → FitsSweep stacks (record w { ready = Some at }) u roll

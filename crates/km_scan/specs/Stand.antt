@@ -121,6 +121,13 @@ Fits s t roll = (w : Sweep) → s.sweep ≡ Some w → FitsSweep s.stacks w t ro
 abbrev pub IsSettled : Stand → Type 0
 IsSettled s = (w : Sweep) → s.sweep ≡ Some w → w.ready ≡ None
 
+-- a load needs no further move, and its place agrees with a tracker and tasks
+pub record IsDue (s : Stand) (at : At) (t : Tracker) (roll : Roll) : Type 0 where
+  pub sweep : Sweep
+  pub running : s.sweep ≡ Some sweep
+  pub place : due_in sweep t roll ≡ Some (place_of at)
+  pub fits : FitsDue s.stacks (Some at) t roll
+
 -- a change leaves each block where it is, and makes none white
 abbrev pub KeepsPlaces : (Tracked → Tracked) → Type 0
 KeepsPlaces change =

@@ -1,19 +1,19 @@
 //! The scanner.
 
-ghost use Rattle.std.specs.Prelude.{◌≡◌, ◌+◌, ◌^◌, ◌<◌, [], None, Some, true, false, option_map};
+ghost use Rattle.std.specs.Prelude.{◌≡◌, ◌+◌, ◌^◌, ◌<◌, [], IfSome, None, Some, true, false, option_map};
 ghost use Rattle.std.specs.List.{All};
 ghost use Rattle.km_model.specs.Past.{Place};
 ghost use Rattle.km_state.specs.StateNext.{next_in, queue_at};
 ghost use Rattle.km_tasks.specs.Roll.{Roll};
 ghost use Rattle.km_track.specs.Tracker.{Live, is_live, live_with, scan_started, unregistered_at};
 ghost use Rattle.km_scan.specs.Places.{place_of};
-ghost use Rattle.km_scan.specs.Stand.{Fits, IsSettled, StackEnds, due_in, idle, load_told, running_in, scanning_of, seen, started, sweep_told, sweep_without, want_of};
+ghost use Rattle.km_scan.specs.Stand.{Fits, IsDue, IsSettled, StackEnds, due_in, idle, load_told, running_in, scanning_of, seen, started, sweep_told, sweep_without, want_of};
 ghost use Rattle.km_base.specs.declared.spans.Addr.{Addr as Address};
 ghost use Rattle.km_scan.specs.declared.scanner.Want.TheVariants.{Load as LoadWord};
 ghost use Rattle.km_scan.specs.declared.places.At.{At as Spot};
 ghost use Rattle.km_scan.specs.declared.sweep.Sweep.{Sweep as Run};
 
-use crate::places::Cursor;
+use crate::places::{At, Cursor};
 use crate::sweep::Sweep;
 use km_base::Addr;
 use km_map::ObjectMap;
@@ -104,6 +104,19 @@ impl Scanner {
         }
     }
 
+    /// The load that needs no further move, if a scan is running and has one.
+    pub fn due<M: ObjectMap>(&self, track: &Track<M>, tasks: &Tasks) -> Option<At>
+        requires { Fits self.now track.now tasks.now }
+        ensures due { IfSome result (λ at. IsDue self.now at track.now tasks.now) }
+        ensures none { result ≡ None → (w : Run) → self.now.sweep ≡ Some w → due_in w track.now tasks.now ≡ None }
+        ensures next { (w : Run) (p : Place) → self.now.sweep ≡ Some w → w.ready ≡ None → due_in w track.now tasks.now ≡ Some p → next_in (seen self.now.stacks track.now tasks.now) (scanning_of track.now w) ≡ Some p }
+    {
+        let Some(sweep) = &self.sweep else {
+            return None;
+        };
+        sweep.due(track, tasks)
+    }
+
     /// Moves on to the next load, and gives the scan's number where there is none: then it has ended.
     ///
     /// What it passes by in the queue is taken out.
@@ -125,6 +138,20 @@ impl Scanner {
         None
     }
 
+    /// Takes the value of the load that is due.
+    pub fn take<M: ObjectMap>(&mut self, track: &mut Track<M>, at: At, value: u64)
+        requires { (roll : Roll) × IsDue self.old at track.old roll }
+        ensures sweep { (w : Run) → self.old.sweep ≡ Some w → self.new ≡ record self.old { sweep = Some (sweep_told w at value track.old) } }
+        ensures track { (w : Run) (roll : Roll) → self.old.sweep ≡ Some w → track.new ≡ load_told self.old.stacks w (place_of at) value track.old roll }
+        ensures fits { (roll : Roll) → Fits self.old track.old roll → IsDue self.old at track.old roll → Fits self.new track.new roll }
+        ensures settled { IsSettled self.new }
+    {
+        let Some(sweep) = &mut self.sweep else {
+            return;
+        };
+        sweep.take(track, at, value);
+    }
+
     /// Takes the value of the load that it wants.
     pub fn told<M: ObjectMap>(&mut self, track: &mut Track<M>, tasks: &Tasks, value: u64)
         requires fits { Fits self.old track.old tasks.now }
@@ -134,14 +161,10 @@ impl Scanner {
         ensures fits { Fits self.new track.new tasks.now }
         ensures settled { IsSettled self.new }
     {
-        let Some(mut sweep) = self.sweep else {
+        let Some(at) = self.due(track, tasks) else {
             return;
         };
-        let Some(at) = sweep.due(track, tasks) else {
-            return;
-        };
-        sweep.take(track, at, value);
-        self.sweep = Some(sweep);
+        self.take(track, at, value);
     }
 
     /// Leaves a block that is about to be unregistered. An id that isn't live changes nothing.

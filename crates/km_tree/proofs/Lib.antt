@@ -1,5 +1,6 @@
 pub mod Finds
 pub mod Lists
+pub mod Bounds
 pub mod Levels
 pub mod Orders
 pub mod Tables

@@ -104,10 +104,13 @@ pub record Seen (es : List Entry) (a : ℕ) (found : Option Entry) : Type 0 wher
   pub rising : IsRising es
   pub first : find (ends_behind a) es ≡ found
 
+pub rises : {table : List Node} {root free room capacity : ℕ} {es : List Entry} → AnyKept table root free room capacity → entries_of (tree_at table root) ≡ es → IsRising es
+rises {table} {root} any seen = let k = any.kept in subst IsRising (ap entries_of (sym (tree_is table any.tree root k.stands k.is)) ∙ seen) k.rising
+
 pub sees : {table lent : List Node} {root free room capacity a : ℕ} {found : Option Entry} {es : List Entry} → AnyKept table root free room capacity → lent ≡ table → entries_of (tree_at table root) ≡ es
     → ((t : Tree) → root_of t ≡ root → Stands lent t → IsRising (entries_of t) → found ≡ find (ends_behind a) (entries_of t)) → Seen es a found
 sees {table} {lent} {root} {a = a} {found} {es} any lends seen search_ =
     let k = any.kept in
     let tree = any.tree in
     let is : entries_of tree ≡ es = ap entries_of (sym (tree_is table tree root k.stands k.is)) ∙ seen in
-    record { rising = subst IsRising is k.rising; first = sym (search_ tree k.is (subst (λ t. Stands t tree) (sym lends) k.stands) k.rising ∙ ap (find (ends_behind a)) is) }
+    record { rising = rises any seen; first = sym (search_ tree k.is (subst (λ t. Stands t tree) (sym lends) k.stands) k.rising ∙ ap (find (ends_behind a)) is) }

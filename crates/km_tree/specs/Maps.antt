@@ -1,5 +1,6 @@
 use Rattle.std.specs.Prelude.{◌≡◌, ◌==◌, ℕ, zero, suc, ◌+◌, ◌≤◌, ◌<◌, ◌^◌, length, List, [], ◌∷◌, Option, None, Some, slice_get, if◌then◌else◌}
-use Rattle.km_map.specs.Entries.{IsRising}
+use Rattle.km_map.specs.declared.entries.Entry.{Entry}
+use Rattle.km_map.specs.Entries.{IsRising, end_of}
 use Rattle.km_tree.specs.declared.node.Node.{Node}
 use Rattle.km_tree.specs.Tables.{Stands, height_at}
 use Rattle.km_tree.specs.Trees.{Tree, Leaf, Fork, IsLevel, entries_of, root_of, size_of, uses, one, no_node}
@@ -62,3 +63,13 @@ pub record AnyRoom (table : List Node) (free capacity : ℕ) : Type 0 where
 pub record Ready (table : List Node) (tree : Tree) (root free room capacity : ℕ) : Type 0 where
   pub rest : List ℕ
   pub kept : Kept table tree (free ∷ rest) root free room capacity
+
+-- each span starts at an address or behind it, and ends at another or before it
+abbrev pub AreWithin : ℕ → ℕ → List Entry → Type 0
+AreWithin low high [] = Unit {0}
+AreWithin low high (e ∷ es) = (low ≤ e.span.start.0) × (end_of e ≤ high) × AreWithin low high es
+
+-- a map whose spans lie between two addresses
+pub record Bounded (table : List Node) (root free room capacity lowest highest : ℕ) : Type 0 where
+  pub any : AnyKept table root free room capacity
+  pub within : AreWithin lowest highest (entries_of (tree_at table root))

@@ -23,6 +23,10 @@ pub struct TreeMap {
     free: u32,
     /// How many more spans it can take.
     room: u32,
+    /// The lowest start of any span that ever came.
+    lowest: u64,
+    /// The highest end of any span that ever came.
+    highest: u64,
 }
 
 impl Model for TreeMap {
@@ -32,11 +36,11 @@ impl Model for TreeMap {
 
     ghost use Rattle.std.specs.Prelude.{vec_capacity};
     ghost use Rattle.km_tree.specs.Trees.{entries_of};
-    ghost use Rattle.km_tree.specs.Maps.{AnyKept, tree_at};
+    ghost use Rattle.km_tree.specs.Maps.{Bounded, tree_at};
 
     ghost view = { λ m. record { entries = entries_of (tree_at m.nodes.items m.root); room = m.room } };
 
-    ghost invariant = { λ m. AnyKept m.nodes.items m.root m.free m.room (vec_capacity m.nodes) };
+    ghost invariant = { λ m. Bounded m.nodes.items m.root m.free m.room (vec_capacity m.nodes) m.lowest m.highest };
 }
 
 /// A free place: the one that is given, or else the first that was never used.
@@ -71,6 +75,8 @@ impl TreeMap {
                 root: NO_NODE,
                 free: NO_NODE,
                 room: capacity,
+                lowest: u64::MAX,
+                highest: 0,
             }),
             Err(_) => Err(NoMemory),
         }
@@ -89,6 +95,8 @@ impl ObjectMap for TreeMap {
         self.root = try_hang(&mut self.nodes, self.root, self.free, entry, None)?;
         self.free = next;
         self.room -= 1;
+        self.lowest = self.lowest.min(span.start.0);
+        self.highest = self.highest.max(span.start.0 + span.size);
         Ok(())
     }
 
@@ -103,6 +111,9 @@ impl ObjectMap for TreeMap {
     }
 
     fn find(&self, a: Addr) -> Option<u32> {
+        if a.0 < self.lowest || self.highest <= a.0 {
+            return None;
+        }
         match ending_behind(&self.nodes, self.root, a.0) {
             Some(e) if e.span.start.0 <= a.0 => Some(e.slot),
             _ => None,

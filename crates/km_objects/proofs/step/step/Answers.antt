@@ -1,21 +1,27 @@
-use Rattle.std.proofs.Common.{refl, sym, ap, ◌∙◌}
-use Rattle.km_model.specs.Memory.{in_memory}
-use Rattle.km_scan.specs.Stand.{due_in}
-use Rattle.km_objects.proofs.Steps.{due_loads, idle_step, is_idle}
+use Rattle.std.proofs.Common.{refl, sym, ◌∙◌}
+use Rattle.km_scan.specs.Places.{place_of}
+use Rattle.km_objects.proofs.Steps.{due_loads, idle_step, is_idle, is_running}
 use Rattle.km_objects.proofs.step.step.Goals as goal
 
-pub load-requires-clause-word : goal.load-requires-clause-word
-load-requires-clause-word g c =
-    let h = (c.in-Load.ensures {u = tt}).load c.in-Load.a refl in
-    let next = (c.in-Load.ensures {u = tt}).next h.0 h.1 h.2 (c.requires.agree.settled h.0 h.2) h.3 in
-    ap (in_memory (g.W.Words.told c.args.words.now).size) (sym h.4) ∙ c.requires.words h.0 h.1 h.2 next
+pub load-requires : goal.load-requires
+load-requires g c =
+    let d = (c.in-Some.ensures {u = tt}).due in
+    let next = (c.in-Some.ensures {u = tt}).next d.sweep (place_of c.in-Some.at) d.running (c.requires.agree.settled d.sweep d.running) d.place in
+    record { due = (c.args.tasks.now, d); word = c.requires.words d.sweep (place_of c.in-Some.at) d.running next }
 
-pub returns-in-Load-clause-step : goal.returns-in-Load-clause-step
-returns-in-Load-clause-step g c =
-    let h = (c.in-Load.ensures {u = tt}).load c.in-Load.a refl in
-    let next = (c.in-Load.ensures {u = tt}).next h.0 h.1 h.2 (c.requires.agree.settled h.0 h.2) h.3 in
-    due_loads _ _ _ _ _ h.0 h.1 c.in-Load.a.0 c.load.result h.2 (c.requires.agree.settled h.0 h.2) h.3 next h.4 c.load.ensures.answer (c.load.ensures.sweep h.0 h.1 h.2 h.3) (c.load.ensures.track h.0 h.1 h.2 h.3) c.load.ensures.agree
+pub returns-in-Some-clause-step : goal.returns-in-Some-clause-step
+returns-in-Some-clause-step g c =
+    let at = c.in-Some.at in
+    let d = (c.in-Some.ensures {u = tt}).due in
+    let ready = c.requires.agree.settled d.sweep d.running in
+    let next = (c.in-Some.ensures {u = tt}).next d.sweep (place_of at) d.running ready d.place in
+    due_loads _ _ _ _ _ d.sweep (place_of at) (place_of at).word c.load.result d.running ready d.place next refl c.load.ensures.answer (at, refl, c.load.ensures.sweep d.sweep d.running)
+    (c.load.ensures.track d.sweep c.args.tasks.now d.running) (c.load.ensures.agree c.args.tasks.now c.requires.agree.fits d)
 
-pub returns-in-Idle-clause-step : goal.returns-in-Idle-clause-step
-returns-in-Idle-clause-step g c =
-    idle_step _ _ _ (is_idle c.args.scanner.now.sweep (λ w. due_in w c.args.track.now c.args.tasks.now) c.want.result c.want.ensures.want c.in-Idle.is) c.requires.agree
+pub load_next-requires-clause-moved : goal.load_next-requires-clause-moved
+load_next-requires-clause-moved g c =
+    let r = is_running c.args.scanner.now c.in-Some-running.field-0 (sym c.running.ensures ∙ c.in-Some-running.is) in
+    (r.0, r.1, (c.in_default.ensures {u = tt}).none refl r.0 r.1)
+
+pub returns-in-None-clause-step : goal.returns-in-None-clause-step
+returns-in-None-clause-step g c = idle_step _ _ _ (is_idle c.args.scanner.now (sym c.running.ensures ∙ c.in-None.is)) c.requires.agree
