@@ -23,6 +23,7 @@ use km_verdict::flag;
 use km_words::Words;
 
 /// Loads the word that is due, and gives the scanner its value.
+#[inline(always)]
 fn load<M: ObjectMap, W: Words>(
     track: &mut Track<M>,
     scanner: &mut Scanner,

@@ -1,16 +1,17 @@
 use Rattle.std.proofs.Common.{◌≡◌, ℕ, ◌+◌, ◌-◌, ◌*◌, ◌/◌, Bool, true, false, ◌||◌, cond, List, [], ◌∷◌, drop, Option, Some, None, refl, sym, ap, ◌∙◌, subst, arith}
-use Rattle.std.specs.Prelude.{find, ◌==◌, if◌then◌else◌}
+use Rattle.std.specs.Prelude.{find, ◌==◌, IfSome, if◌then◌else◌}
 use Rattle.std.specs.List.{list_any}
 use Rattle.std.proofs.lemmas.Bool.{eqb-true, eq-eqb}
 use Rattle.km_links.specs.Chains.{first_of, is_in}
 use Rattle.km_base.specs.declared.spans.Addr.{Addr}
 use Rattle.km_record.specs.declared.kinds.RecId.{RecId}
-use Rattle.km_record.specs.Records.{scanned_from}
+use Rattle.km_record.specs.declared.record.Record.{Record}
+use Rattle.km_record.specs.Records.{block_of, scanned_from}
 use Rattle.km_model.specs.Blocks.{Block, is_scanned, scanned_words}
 use Rattle.km_model.specs.Scan.{behind, first_in, first_word, live_words, or_else, place_in, word_above}
 use Rattle.km_state.specs.State.{blocks_in, is_white_now}
 use Rattle.km_tasks.specs.Roll.{Roll}
-use Rattle.km_track.specs.Tracker.{AreRising, Live, Tracker, is_id, is_live, live_with, tracked_in}
+use Rattle.km_track.specs.Tracker.{AreRising, Live, Tracker, is_id, is_live, live_with, tracked_in, tracked_of}
 use Rattle.km_track.proofs.Lives.{found_block, found_its, is_its}
 use Rattle.km_scan.specs.declared.places.At.{At}
 use Rattle.km_scan.specs.declared.places.At.TheVariants.{Block as InBlock}
@@ -85,18 +86,31 @@ first_cons t pass id l o q r e s =
 
 -- the scanned word behind a word of a live block, as it is looked for
 pub behind_is : (t : Tracker) (id : RecId) (l : Live) (w phase : ℕ) (o : Option ℕ) → AreRising 0 t.live t.registered → live_with id t ≡ Some l → (k : Live) × (live_with id t ≡ Some k) × IsWordOf k.tracked.block w
-    → ((k : Live) → live_with id t ≡ Some k → o ≡ scanned_from (k.tracked.block.start + 8 * ((w - l.tracked.block.start) / 8 + 1)) k.tracked.block)
+    → o ≡ scanned_from (l.tracked.block.start + 8 * ((w - l.tracked.block.start) / 8 + 1)) l.tracked.block
     → place_in phase id.generation o ≡ place_in phase id.generation (word_above w (live_words (blocks_in (tracked_in t)) id.generation))
 behind_is t id l w phase o r e h s =
     let other = h.1 in
     let same : h.0 ≡ l = cc in
     let is = subst (λ (k : Live). IsWordOf k.tracked.block w) same h.2 in
     let at = is.2 in
-    ap (place_in phase id.generation) (s l e ∙ word_is t id l w is.0 ((w - l.tracked.block.start) / 8 + 1) r e is.2 (omega (arith, at)))
+    ap (place_in phase id.generation) (s ∙ word_is t id l w is.0 ((w - l.tracked.block.start) / 8 + 1) r e is.2 (omega (arith, at)))
+
+-- a word of a record is one of its live block
+pub word_in : (o : Option Addr) (id : RecId) (t : Tracker) (r : Record) → Some (record { slot = id.slot; tracked = tracked_of id.generation r }) ≡ live_with id t → IfSome o (λ (a : Addr). (n : ℕ) → IsWordOf (block_of n r) a.0)
+    → IfSome o (λ (a : Addr). (l : Live) → live_with id t ≡ Some l → IsWordOf l.tracked.block a.0)
+word_in None id t r e w = tt
+word_in (Some a) id t r e w = λ l f.
+    let k : Live = record { slot = id.slot; tracked = tracked_of id.generation r } in
+    let there : Some k ≡ Some l = e ∙ f in
+    let same : k ≡ l = cc in
+    subst (λ (x : Live). IsWordOf x.tracked.block a.0) same (w id.generation)
 
 -- the block of a place in a grey pass stays, with another of its words
-pub held_word : (stacks : Bool) (pass : Pass) (id : RecId) (word next : Addr) (t : Tracker) (roll : Roll) → FitsAt stacks (InBlock pass id word) t roll → ((l : Live) → live_with id t ≡ Some l → IsWordOf l.tracked.block next.0) → FitsAt stacks (InBlock pass id next) t roll
-held_word stacks pass id word next t roll f w = (f.0, f.1, w f.0 f.1, f.3)
+pub held_word : (stacks : Bool) (pass : Pass) (id : RecId) (word next : Addr) (t : Tracker) (roll : Roll) (l : Live) → FitsAt stacks (InBlock pass id word) t roll → live_with id t ≡ Some l → IsWordOf l.tracked.block next.0 → FitsAt stacks (InBlock pass id next) t roll
+held_word stacks pass id word next t roll l f e w =
+    let there = f.1 in
+    let same : l ≡ f.0 = cc in
+    (f.0, f.1, subst (λ (k : Live). IsWordOf k.tracked.block next.0) same w, f.3)
 
 -- nothing is due where no place is
 pub due_none : (stacks : Bool) (o : Option At) (t : Tracker) (roll : Roll) → o ≡ None → FitsDue stacks o t roll

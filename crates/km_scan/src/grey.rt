@@ -1,8 +1,8 @@
 //! The scanned words of grey blocks, in order of the queue.
 
-ghost use Rattle.std.specs.Prelude.{◌≡◌, ◌≢◌, ◌+◌, ◌*◌, Bool, true, Some, None, [], IfSome, OnSome, IfNone, option_map};
+ghost use Rattle.std.specs.Prelude.{◌≡◌, ◌≢◌, ◌+◌, ◌*◌, ℕ, Bool, true, Some, None, [], IfSome, OnSome, IfNone, option_map};
 ghost use Rattle.km_model.specs.Scan.{behind, first_in, live_words, place_in, word_above};
-ghost use Rattle.km_record.specs.Records.{scanned_from};
+ghost use Rattle.km_record.specs.Records.{IsSound, block_of, scanned_from};
 ghost use Rattle.km_state.specs.State.{blocks_in};
 ghost use Rattle.km_tasks.specs.Roll.{Roll};
 ghost use Rattle.km_track.specs.Tracker.{AreRising, Live, is_live, live_with, tracked_in};
@@ -14,22 +14,33 @@ ghost use Rattle.km_scan.specs.Stand.{FitsAt, FitsDue, IsWordOf};
 use crate::places::{At, Pass};
 use km_base::Addr;
 use km_map::ObjectMap;
-use km_record::RecId;
+use km_record::{RecId, Record};
 use km_track::Track;
 
-/// The first word of a live block that is scanned, from the one with an index on.
-fn scanned_word<M: ObjectMap>(track: &Track<M>, id: RecId, from: u64) -> Option<Addr>
+/// The first word of a block that is scanned, from the one with an index on.
+#[inline(always)]
+fn word_from(block: &Record, from: u64) -> Option<Addr>
+    requires { IsSound block.now }
+    ensures word { (id : ℕ) → option_map (λ a. a.0) result ≡ scanned_from (block.now.span.start.0 + 8 * from) (block_of id block.now) }
+    ensures within { IfSome result (λ a. (id : ℕ) → IsWordOf (block_of id block.now) a.0) }
+{
+    let i = block.next_word(from)?;
+    Some(Addr(block.span.start.0 + 8 * i))
+}
+
+/// The first word of a live block that is scanned.
+fn first_word<M: ObjectMap>(track: &Track<M>, id: RecId) -> Option<Addr>
     requires { is_live id track.now ≡ true }
-    ensures word { (l : Live) → live_with id track.now ≡ Some l → option_map (λ a. a.0) result ≡ scanned_from (l.tracked.block.start + 8 * from) l.tracked.block }
+    ensures word { (l : Live) → live_with id track.now ≡ Some l → option_map (λ a. a.0) result ≡ scanned_from (l.tracked.block.start + 8 * 0) l.tracked.block }
     ensures within { IfSome result (λ a. (l : Live) → live_with id track.now ≡ Some l → IsWordOf l.tracked.block a.0) }
     ensures rising { AreRising 0 track.now.live track.now.registered }
 {
     let record = track.record(id)?;
-    let i = record.next_word(from)?;
-    Some(Addr(record.span.start.0 + 8 * i))
+    word_from(record, 0)
 }
 
 /// The scanned word behind another in the block that a grey pass holds.
+#[inline(always)]
 pub fn word_behind<M: ObjectMap>(track: &Track<M>, pass: Pass, id: RecId, word: Addr) -> Option<At>
     requires { (l : Live) × (live_with id track.now ≡ Some l) × IsWordOf l.tracked.block word.0 }
     ensures place { option_map place_of result ≡ place_in (phase_of pass) id.generation (word_above word.0 (live_words (blocks_in (tracked_in track.now)) id.generation)) }
@@ -37,7 +48,7 @@ pub fn word_behind<M: ObjectMap>(track: &Track<M>, pass: Pass, id: RecId, word: 
 {
     let record = track.record(id)?;
     let from = (word.0 - record.span.start.0) / 8 + 1;
-    let word = scanned_word(track, id, from)?;
+    let word = word_from(record, from)?;
     Some(At::Block { pass, id, word })
 }
 
@@ -49,7 +60,7 @@ pub fn next_held<M: ObjectMap>(track: &mut Track<M>, pass: Pass) -> Option<At>
     ensures fits { (stacks : Bool) (roll : Roll) → pass ≢ Sums → FitsDue stacks result track.new roll }
 {
     while let Some(id) = track.pop_grey() {
-        if let Some(word) = scanned_word(track, id, 0) {
+        if let Some(word) = first_word(track, id) {
             return Some(At::Block { pass, id, word });
         }
     }

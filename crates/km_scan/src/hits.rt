@@ -64,6 +64,7 @@ fn referred<M: ObjectMap>(track: &Track<M>, holder: Option<u64>, value: u64) -> 
 }
 
 /// Counts the reference that a value in a word of the holder is.
+#[inline(always)]
 pub fn refer<M: ObjectMap>(track: &mut Track<M>, holder: Option<u64>, value: u64)
     ensures { (place : Place) → place.phase ≢ 3 → holder ≡ holder_of place → track.new ≡ hit_told (hit_in (tracked_in track.old) place value) track.old }
 {

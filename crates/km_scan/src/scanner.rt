@@ -105,6 +105,7 @@ impl Scanner {
     }
 
     /// The load that needs no further move, if a scan is running and has one.
+    #[inline(always)]
     pub fn due<M: ObjectMap>(&self, track: &Track<M>, tasks: &Tasks) -> Option<At>
         requires { Fits self.now track.now tasks.now }
         ensures due { IfSome result (λ at. IsDue self.now at track.now tasks.now) }
@@ -139,6 +140,7 @@ impl Scanner {
     }
 
     /// Takes the value of the load that is due.
+    #[inline(always)]
     pub fn take<M: ObjectMap>(&mut self, track: &mut Track<M>, at: At, value: u64)
         requires { (roll : Roll) × IsDue self.old at track.old roll }
         ensures sweep { (w : Run) → self.old.sweep ≡ Some w → self.new ≡ record self.old { sweep = Some (sweep_told w at value track.old) } }

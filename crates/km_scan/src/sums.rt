@@ -5,7 +5,7 @@ ghost use Rattle.km_model.specs.Scan.{place_in, word_above};
 ghost use Rattle.km_state.specs.State.{is_white_now};
 ghost use Rattle.km_state.specs.StateNext.{first_white_in, sum_after, white_words_in};
 ghost use Rattle.km_tasks.specs.Roll.{Roll};
-ghost use Rattle.km_track.specs.Tracker.{AreRising, Live, is_live, live_from, live_with, tracked_in};
+ghost use Rattle.km_track.specs.Tracker.{AreRising, Live, is_live, live_from, live_with, tracked_in, tracked_of};
 ghost use Rattle.km_scan.specs.Places.{cursor_of, place_of};
 ghost use Rattle.km_scan.specs.Stand.{FitsDue, IsWordOf, load_told, scanning_of, tracked_from, white_next_in};
 ghost use Rattle.km_base.specs.declared.spans.Addr.{Addr as Address};
@@ -17,8 +17,15 @@ ghost use Rattle.km_scan.specs.declared.sweep.Sweep.{Sweep};
 use crate::places::{At, Cursor, Pass};
 use km_base::Addr;
 use km_map::ObjectMap;
-use km_record::{Colour, RecId};
+use km_record::{Colour, RecId, Record};
 use km_track::Track;
+
+/// Whether a block has fewer references than it needs.
+fn needs_more(block: &Record) -> bool
+    ensures { (id : ℕ) → result ≡ is_white_now (tracked_of id block.now) }
+{
+    matches!(block.colour(), Colour::White)
+}
 
 /// Whether a live block is white.
 pub fn is_white<M: ObjectMap>(track: &Track<M>, id: RecId) -> bool
@@ -26,7 +33,7 @@ pub fn is_white<M: ObjectMap>(track: &Track<M>, id: RecId) -> bool
     ensures rising { AreRising 0 track.now.live track.now.registered }
 {
     match track.record(id) {
-        Some(record) => matches!(record.colour(), Colour::White),
+        Some(record) => needs_more(record),
         None => false,
     }
 }
@@ -100,15 +107,16 @@ pub fn next_white<M: ObjectMap>(track: &Track<M>, cursor: Cursor) -> Option<At>
 }
 
 /// The word behind another in the block that is summed, where that is still white.
+#[inline(always)]
 pub fn word_behind<M: ObjectMap>(track: &Track<M>, id: RecId, word: Addr) -> Option<At>
     requires { (l : Live) × (live_with id track.now ≡ Some l) × IsWordOf l.tracked.block word.0 }
     ensures place { option_map place_of result ≡ place_in 3 id.generation (word_above word.0 (white_words_in (tracked_in track.now) id.generation)) }
     ensures fits { (stacks : Bool) (roll : Roll) → FitsDue stacks result track.now roll }
 {
-    if !is_white(track, id) {
+    let record = track.record(id)?;
+    if !needs_more(record) {
         return None;
     }
-    let record = track.record(id)?;
     if word.0 - record.span.start.0 + 8 >= record.span.size {
         return None;
     }
@@ -120,6 +128,7 @@ pub fn word_behind<M: ObjectMap>(track: &Track<M>, id: RecId, word: Addr) -> Opt
 }
 
 /// Keeps the sum of a white block, where its last word was added.
+#[inline(always)]
 pub fn keep<M: ObjectMap>(track: &mut Track<M>, id: RecId, word: Addr, sum: u64)
     requires { (l : Live) × (live_with id track.old ≡ Some l) × IsWordOf l.tracked.block word.0 × (is_white_now l.tracked ≡ true) }
     ensures { (stacks : Bool) (w : Sweep) (value : ℕ) (roll : Roll) → sum ≡ sum_after (scanning_of track.old w) (record { phase = 3; holder = id.generation; word = word.0 }) value → track.new ≡ load_told stacks w (record { phase = 3; holder = id.generation; word = word.0 }) value track.old roll }

@@ -48,6 +48,7 @@ fn phase(cursor: Cursor) -> u8
 }
 
 /// The word behind another in its stack or block.
+#[inline(always)]
 fn word_behind<M: ObjectMap>(at: At, track: &Track<M>, tasks: &Tasks) -> Option<At>
     requires at { (stacks : Bool) × FitsAt stacks at track.now tasks.now }
     requires end { All StackEnds tasks.now.tasks }
@@ -104,6 +105,7 @@ fn next_white<M: ObjectMap>(cursor: Cursor, track: &Track<M>) -> Option<At>
 }
 
 /// Counts what a loaded value refers to, or keeps the sum that it ends.
+#[inline(always)]
 fn count<M: ObjectMap>(track: &mut Track<M>, at: At, value: u64, sum: Sum)
     requires { (stacks : Bool) × (roll : Roll) × FitsDue stacks (Some at) track.old roll }
     ensures { (stacks : Bool) (w : Run) (roll : Roll) → sum ≡ sum_after (scanning_of track.old w) (place_of at) value → track.new ≡ load_told stacks w (place_of at) value track.old roll }
@@ -119,6 +121,7 @@ fn count<M: ObjectMap>(track: &mut Track<M>, at: At, value: u64, sum: Sum)
 
 impl Sweep {
     /// The load that needs no further move.
+    #[inline(always)]
     pub fn due<M: ObjectMap>(&self, track: &Track<M>, tasks: &Tasks) -> Option<At>
         requires { (stacks : Bool) × FitsSweep stacks self.now track.now tasks.now }
         ensures place { option_map place_of result ≡ due_in self.now track.now tasks.now }
@@ -197,6 +200,7 @@ impl Sweep {
     }
 
     /// Takes the value that was loaded at a place.
+    #[inline(always)]
     pub fn take<M: ObjectMap>(&mut self, track: &mut Track<M>, at: At, value: u64)
         requires { (stacks : Bool) × (roll : Roll) × FitsDue stacks (Some at) track.old roll }
         ensures sweep { self.new ≡ sweep_told self.old at value track.old }

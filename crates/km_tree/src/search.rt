@@ -9,6 +9,7 @@ use crate::node::{NO_NODE, Node};
 use km_map::Entry;
 
 /// The lowest entry that ends behind an address.
+#[inline(never)]
 pub fn ending_behind(nodes: &[Node], root: u32, a: u64) -> Option<Entry>
     requires { TreeAt nodes.now root }
     ensures { (t : Tree) → root_of t ≡ root → Stands nodes.now t → IsRising (entries_of t) → result ≡ find (ends_behind a) (entries_of t) }
