@@ -1,96 +1,118 @@
-use Rattle.std.proofs.Common.{◌≡◌, ℕ, suc, ◌+◌, Bool, true, false, ◌||◌, not, List, [], ◌∷◌, length, take, drop, None, position, refl, ap, sym, subst, ◌∙◌, arith}
-use Rattle.std.specs.List.{list_any, prefix_len, position_or_len}
-use Rattle.std.proofs.Math.Bool.{or_assoc}
-use Rattle.std.proofs.lemmas.Bool.{le-ltb}
+use Rattle.std.proofs.Common.{◌≡◌, ℕ, suc, ◌+◌, ◌-◌, Bool, true, false, cond, not, ◌==◌, List, [], ◌∷◌, ◌++◌, length, take, drop, Option, Some, None, refl, ap, sym, ◌∙◌, arith, add-zero}
+use Rattle.std.specs.List.{prefix_len, position_from, position_or_len}
 use Rattle.std.proofs.lemmas.List.{take-append-drop}
-use Rattle.std.proofs.lemmas.List.Folds.{list_any-append}
 use Rattle.km_model.specs.Grammar.{is_foreign}
-use Rattle.km_model.specs.Pieces.{is_blank, goes_on}
-use Rattle.km_script.specs.Words.{is_hidden}
+use Rattle.km_model.specs.Pieces.{is_blank, goes_on, pieces_from}
+use Rattle.km_script.specs.Bytes.{is_plain}
+use Rattle.km_script.specs.Marks.{if_here, or_first}
 
--- whether one of these bytes is foreign
-abbrev pub foreign : List ℕ → Bool
-foreign cs = list_any is_foreign cs
+-- a byte of which nothing is noted
+pub plain_is : (c : ℕ) → is_plain c ≡ true → (is_blank c ≡ false) × (is_foreign c ≡ false) × ((c == 46) ≡ false) × ((c == 43) ≡ false)
+plain_is c e = grind arith
 
--- a byte is blank, foreign or visible
-blank_hidden : (c : ℕ) → is_blank c ≡ true → (is_hidden c ≡ true) × (is_foreign c ≡ false)
-blank_hidden c e = grind arith
+blank_is : (c : ℕ) → is_blank c ≡ true → is_foreign c ≡ false
+blank_is c e = grind arith
 
-foreign_hidden : (c : ℕ) → is_blank c ≡ false → is_foreign c ≡ is_hidden c
-foreign_hidden c e = grind arith
+pub or_first_assoc : (a b c : Option ℕ) → or_first (or_first a b) c ≡ or_first a (or_first b c)
+or_first_assoc None b c = refl
+or_first_assoc (Some i) b c = refl
 
--- a word ends at its first byte that isn't visible, unless that byte is foreign
-pub record IsFront (cs : List ℕ) (n : ℕ) : Type 0 where
-  pub foreign : foreign (take (position_or_len is_blank cs) cs) ≡ goes_on (drop n cs)
-  pub ends : goes_on (drop n cs) ≡ false → position_or_len is_blank cs ≡ n
+pub or_none : (a : Option ℕ) → or_first a None ≡ a
+or_none None = refl
+or_none (Some i) = refl
 
-put : (c : ℕ) (cs : List ℕ) (n : ℕ) → is_blank c ≡ false → is_hidden c ≡ false → IsFront cs n → IsFront (c ∷ cs) (1 + n)
-put c cs n b h f =
-    let k = position_or_len is_blank cs in
-    let place : position_or_len is_blank (c ∷ cs) ≡ suc k = rw b (omega arith) in
-    let from : drop (1 + n) (c ∷ cs) ≡ drop n cs = ap (λ i. drop i (c ∷ cs)) (let e : 1 + n ≡ suc n = omega arith in e) in
-    record {
-      foreign = rw (place, from, foreign_hidden c b ∙ h) f.foreign;
-      ends = λ e. place ∙ ap suc (f.ends (ap goes_on (sym from) ∙ e)) ∙ (omega arith);
-    }
+-- the first place in two parts
+pub place_in_both : (p : ℕ → Bool) (i : ℕ) (xs ys : List ℕ) → position_from p i (xs ++ ys) ≡ or_first (position_from p i xs) (position_from p (i + length xs) ys)
+place_in_both p i [] ys = ap (λ k. position_from p k ys) (sym (add-zero i))
+place_in_both p i (x ∷ xs) ys =
+    elim (p x) as (λ b. cond b (Some i) (position_from p (i + 1) (xs ++ ys)) ≡ or_first (cond b (Some i) (position_from p (i + 1) xs)) (position_from p (i + suc (length xs)) ys)) [
+      | true ↦ refl
+      | false ↦
+          place_in_both p (i + 1) xs ys
+          ∙ ap (λ k. or_first (position_from p (i + 1) xs) (position_from p k ys)) (let e : i + 1 + length xs ≡ i + suc (length xs) = omega arith in e)
+    ]
 
--- the word at the front, by the first byte that isn't visible
-pub front : (cs : List ℕ) → IsFront cs (position_or_len is_hidden cs)
-front [] = record { foreign = refl; ends = λ _. refl }
-front (c ∷ cs) = by_tests (is_blank c) (is_hidden c) refl refl (front cs)
-  where
-    by_tests : (b h : Bool) → is_blank c ≡ b → is_hidden c ≡ h → IsFront cs (position_or_len is_hidden cs) → IsFront (c ∷ cs) (position_or_len is_hidden (c ∷ cs))
-    by_tests true h b e f =
-        let at : position_or_len is_hidden (c ∷ cs) ≡ 0 = rw ((blank_hidden c b).0) refl in
-        let P : ℕ → Type 0 = λ n. IsFront (c ∷ cs) n in
-        subst P (sym at) (record { foreign = rw b refl; ends = λ _. rw b refl })
-    by_tests false true b e f =
-        let at : position_or_len is_hidden (c ∷ cs) ≡ 0 = rw e refl in
-        let place : position_or_len is_blank (c ∷ cs) ≡ suc (position_or_len is_blank cs) = rw b (omega arith) in
-        let P : ℕ → Type 0 = λ n. IsFront (c ∷ cs) n in
-        subst P (sym at) (record {
-          foreign = rw place (ap (λ x. x || foreign (take (position_or_len is_blank cs) cs)) (foreign_hidden c b ∙ e) ∙ sym (ap not b));
-          ends = λ s. absurd (cc (ap not b, s));
-        })
-    by_tests false false b e f =
-        let at : position_or_len is_hidden (c ∷ cs) ≡ 1 + position_or_len is_hidden cs = rw e refl in
-        let P : ℕ → Type 0 = λ n. IsFront (c ∷ cs) n in
-        subst P (sym at) (put c cs _ b e f)
+-- one byte is looked at
+pub place_at : (p : ℕ → Bool) (i x : ℕ) (xs : List ℕ) → position_from p i (x ∷ xs) ≡ or_first (if_here (p x) i) (position_from p (i + 1) xs)
+place_at p i x xs =
+    elim (p x) as (λ b. cond b (Some i) (position_from p (i + 1) xs) ≡ or_first (if_here b i) (position_from p (i + 1) xs)) [
+      | true ↦ refl
+      | false ↦ refl
+    ]
 
--- the same by what stands from that byte on
-pub front_at : (cs : List ℕ) (n : ℕ) (behind : List ℕ) → n ≡ position_or_len is_hidden cs → behind ≡ drop n cs
-    → (foreign (take (position_or_len is_blank cs) cs) ≡ goes_on behind) × (goes_on behind ≡ false → position_or_len is_blank cs ≡ n)
-front_at cs n behind e b = rw (b, e) ((front cs).foreign, (front cs).ends)
+-- one byte more is looked at
+pub place_more : (p : ℕ → Bool) (i x : ℕ) (xs : List ℕ) → position_from p i (xs ++ x ∷ []) ≡ or_first (position_from p i xs) (if_here (p x) (i + length xs))
+place_more p i x xs =
+    place_in_both p i xs (x ∷ [])
+    ∙ ap (λ o. or_first (position_from p i xs) o) (place_at p (i + length xs) x [] ∙ or_none (if_here (p x) (i + length xs)))
 
 -- blanks are not foreign
-pub behind_blanks : (cs : List ℕ) → foreign cs ≡ foreign (drop (prefix_len is_blank cs) cs)
-behind_blanks [] = refl
-behind_blanks (c ∷ cs) = by_test (is_blank c) refl (behind_blanks cs)
+behind_blanks : (i : ℕ) (cs : List ℕ) → position_from is_foreign i cs ≡ position_from is_foreign (i + prefix_len is_blank cs) (drop (prefix_len is_blank cs) cs)
+behind_blanks i [] = refl
+behind_blanks i (c ∷ cs) = by_test (is_blank c) refl (behind_blanks (i + 1) cs)
   where
-    by_test : (b : Bool) → is_blank c ≡ b → foreign cs ≡ foreign (drop (prefix_len is_blank cs) cs) → foreign (c ∷ cs) ≡ foreign (drop (prefix_len is_blank (c ∷ cs)) (c ∷ cs))
-    by_test false e ih = let zero : prefix_len is_blank (c ∷ cs) ≡ 0 = rw e refl in rw zero refl
+    by_test : (b : Bool) → is_blank c ≡ b
+        → position_from is_foreign (i + 1) cs ≡ position_from is_foreign (i + 1 + prefix_len is_blank cs) (drop (prefix_len is_blank cs) cs)
+        → position_from is_foreign i (c ∷ cs) ≡ position_from is_foreign (i + prefix_len is_blank (c ∷ cs)) (drop (prefix_len is_blank (c ∷ cs)) (c ∷ cs))
+    by_test false e ih =
+        let zero : prefix_len is_blank (c ∷ cs) ≡ 0 = rw e refl in
+        rw (zero, add-zero i) refl
     by_test true e ih =
         let one : prefix_len is_blank (c ∷ cs) ≡ suc (prefix_len is_blank cs) = rw e (omega arith) in
-        rw (one, (blank_hidden c e).1) ih
+        let on : i + 1 + prefix_len is_blank cs ≡ i + suc (prefix_len is_blank cs) = omega arith in
+        rw one (ap (λ b. cond b (Some i) (position_from is_foreign (i + 1) cs)) (blank_is c e) ∙ ih ∙ ap (λ k. position_from is_foreign k (drop (prefix_len is_blank cs) cs)) on)
 
--- what is foreign in a line, by how a cursor goes behind its first word
-pub foreign_behind_word : (foreign_before : Bool) (cs from rest : List ℕ) (blanks n : ℕ) (foreign_in : Bool)
-    → blanks ≡ prefix_len is_blank cs → from ≡ drop blanks cs → foreign_in ≡ foreign (take n from) → rest ≡ drop n from
-    → (foreign_before || foreign_in || foreign rest) ≡ (foreign_before || foreign cs)
-foreign_behind_word before cs from rest blanks n inside b f i r =
-    or_assoc before inside (foreign rest)
-    ∙ ap (λ x. before || x) (
-    rw (i, r) (sym (list_any-append is_foreign (take n from) (drop n from)) ∙ ap foreign (take-append-drop n from))
-    ∙ ap foreign (f ∙ ap (λ k. drop k cs) b) ∙ sym (behind_blanks cs))
+-- what is foreign in a line, by its first word and what stands behind that
+pub foreign_next : (before noted : Option ℕ) (column blanks first n : ℕ) (cs behind rest : List ℕ)
+    → blanks ≡ prefix_len is_blank cs → drop blanks cs ≡ first ∷ behind → noted ≡ position_from is_foreign (column + blanks + 1) (take n behind)
+    → rest ≡ drop n behind → length (take n behind) ≡ n
+    → or_first (or_first before (or_first (if_here (is_foreign first) (column + blanks)) noted)) (position_from is_foreign (column + blanks + 1 + n) rest)
+    ≡ or_first before (position_from is_foreign column cs)
+foreign_next before noted column blanks first n cs behind rest b from m r l =
+    let here = if_here (is_foreign first) (column + blanks) in
+    or_first_assoc before (or_first here noted) (position_from is_foreign (column + blanks + 1 + n) rest)
+    ∙ ap (λ o. or_first before o) (
+    or_first_assoc here noted (position_from is_foreign (column + blanks + 1 + n) rest)
+    ∙ ap (λ o. or_first here o) (
+    rw (m, r) (
+    ap (λ k. or_first (position_from is_foreign (column + blanks + 1) (take n behind)) (position_from is_foreign (column + blanks + 1 + k) (drop n behind))) (sym l)
+    ∙ sym (place_in_both is_foreign (column + blanks + 1) (take n behind) (drop n behind))
+    ∙ ap (position_from is_foreign (column + blanks + 1)) (take-append-drop n behind)))
+    ∙ sym (place_at is_foreign (column + blanks) first behind)
+    ∙ ap (position_from is_foreign (column + blanks)) (sym from)
+    ∙ ap (λ k. position_from is_foreign (column + k) (drop k cs)) b
+    ∙ sym (behind_blanks column cs))
 
-no_place : (cs : List ℕ) → foreign cs ≡ false → position_or_len is_foreign cs ≡ length cs
-no_place [] e = refl
-no_place (c ∷ cs) e = by_test (is_foreign c) refl e (no_place cs)
+-- a word ends at a blank or at the end
+pub ends_at_blank : (xs : List ℕ) → goes_on (drop (position_or_len is_blank xs) xs) ≡ false
+ends_at_blank [] = refl
+ends_at_blank (c ∷ cs) = by_test (is_blank c) refl (ends_at_blank cs)
   where
-    by_test : (b : Bool) → is_foreign c ≡ b → (b || foreign cs) ≡ false → (foreign cs ≡ false → position_or_len is_foreign cs ≡ length cs) → position_or_len is_foreign (c ∷ cs) ≡ length (c ∷ cs)
-    by_test true t s ih = absurd (cc)
-    by_test false t s ih = rw (t, ih s) (omega arith)
+    by_test : (b : Bool) → is_blank c ≡ b → goes_on (drop (position_or_len is_blank cs) cs) ≡ false → goes_on (drop (position_or_len is_blank (c ∷ cs)) (c ∷ cs)) ≡ false
+    by_test true e ih =
+        let zero : position_or_len is_blank (c ∷ cs) ≡ 0 = rw e refl in
+        rw (zero, e) refl
+    by_test false e ih =
+        let one : position_or_len is_blank (c ∷ cs) ≡ suc (position_or_len is_blank cs) = rw e (omega arith) in
+        rw one ih
 
--- no byte is foreign
-pub none : (cs : List ℕ) → foreign cs ≡ false → position is_foreign cs ≡ None
-none cs e = rw (no_place cs e, le-ltb (length cs) (length cs) (omega arith)) refl
+unless_not : (b : Bool) → not b ≡ false → b ≡ true
+unless_not true e = refl
+unless_not false e = absurd (cc)
+
+-- two ends of a line that have the same words and the same foreign byte
+pub record AreAlike (i k : ℕ) (xs ys : List ℕ) : Type 0 where
+  pub pieces : pieces_from i xs ≡ pieces_from k ys
+  pub foreign : position_from is_foreign i xs ≡ position_from is_foreign k ys
+
+-- the blank that ends a word may be passed
+pub behind_end : (i k end : ℕ) (xs ys : List ℕ) → goes_on xs ≡ false → ys ≡ drop 1 xs → i + length xs ≡ end → k ≡ end - length ys → AreAlike i k xs ys
+behind_end i k end [] ys g d l e = rw d (record { pieces = refl; foreign = refl })
+behind_end i k end (c ∷ cs) ys g d l e =
+    let same : ys ≡ cs = d in
+    let next : k ≡ i + 1 = omega (arith, ap length same) in
+    let blank : is_blank c ≡ true = unless_not (is_blank c) g in
+    rw (same, next) (record {
+      pieces = rw blank refl;
+      foreign = rw (blank_is c blank) refl;
+    })

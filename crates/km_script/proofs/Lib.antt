@@ -2,5 +2,7 @@ pub mod Pieces
 pub mod Cuts
 pub mod Prefix
 pub mod Foreign
+pub mod Noted
+pub mod Bases
 pub mod LineLaws
 pub mod RuleLaws

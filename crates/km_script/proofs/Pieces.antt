@@ -1,6 +1,8 @@
-use Rattle.std.proofs.Common.{◌≡◌, ◌≢◌, ℕ, suc, ◌+◌, Bool, true, false, List, [], ◌∷◌, length, take, drop, refl, ap, sym, ◌∙◌, arith, if◌then◌else◌, not, add-zero}
+use Rattle.std.proofs.Common.{◌≡◌, ℕ, suc, ◌+◌, Bool, true, false, List, [], ◌∷◌, length, take, drop, refl, ap, sym, ◌∙◌, arith, if◌then◌else◌, not, add-zero}
 use Rattle.std.specs.List.{prefix_len, position_or_len}
+use Rattle.std.proofs.Math.Seq.{drop-length}
 use Rattle.km_model.specs.Pieces.{Piece, is_blank, pieces_from, goes_on, put_byte}
+use Rattle.km_script.specs.Words.{IsAllBlank, IsFirstVisible}
 
 -- a word before the others, unless it is empty: then there is no word
 abbrev pub word_before : ℕ → List ℕ → List Piece → List Piece
@@ -65,12 +67,19 @@ next_word column cs from word rest blanks n b f w front back l =
     first_word column cs
     ∙ sym (rw (l, back, front, w, f, b) refl)
 
--- no word is at the front
-pub no_word : (pieces : List Piece) (column : ℕ) (word : List ℕ) (rest : List Piece) → pieces ≡ word_before column word rest → length word ≡ 0 → pieces ≡ []
-no_word pieces column [] rest e h = e
-no_word pieces column (c ∷ cs) rest e h = absurd (omega (arith, h))
+-- blanks alone have no word
+pub no_word : (column : ℕ) (cs : List ℕ) → IsAllBlank cs → pieces_from column cs ≡ []
+no_word column cs e =
+    first_word column cs
+    ∙ ap (λ n. word_behind column n cs) e
+    ∙ ap (λ ds. front_word (column + length cs) (position_or_len is_blank ds) ds) (drop-length cs)
 
--- a word is at the front
-pub some_word : (pieces : List Piece) (column : ℕ) (word : List ℕ) (rest : List Piece) → pieces ≡ word_before column word rest → length word ≢ 0 → pieces ≡ record { column = column; bytes = word } ∷ rest
-some_word pieces column [] rest e h = absurd (h refl)
-some_word pieces column (c ∷ cs) rest e h = e
+-- the word behind the blanks at the front, by its first byte and those behind it
+pub some_word : (column first n : ℕ) (cs behind word rest : List ℕ) (blanks : ℕ) → IsFirstVisible cs blanks first
+    → behind ≡ drop (blanks + 1) cs → n ≡ position_or_len is_blank behind → word ≡ take n behind → rest ≡ drop n behind → length word ≡ n
+    → pieces_from column cs ≡ record { column = column + blanks; bytes = first ∷ word } ∷ pieces_from (column + blanks + 1 + n) rest
+some_word column first n cs behind word rest blanks f b e front back l =
+    next_word column cs (first ∷ behind) (first ∷ word) rest blanks (suc n) f.count (ap (λ ds. first ∷ ds) b ∙ sym f.from)
+    (let k : position_or_len is_blank (first ∷ behind) ≡ suc (position_or_len is_blank behind) = rw (f.visible) (omega arith) in ap suc e ∙ sym k)
+    (ap (λ ds. first ∷ ds) front) back (ap suc l)
+    ∙ ap (λ k. record { column = column + blanks; bytes = first ∷ word } ∷ pieces_from k rest) (let k : column + blanks + suc (length word) ≡ column + blanks + 1 + n = omega (arith, l) in k)

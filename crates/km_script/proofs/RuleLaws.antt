@@ -1,30 +1,12 @@
-use Rattle.std.proofs.Common.{◌≡◌, ◌≢◌, ℕ, Bool, true, false, ◌==◌, ◌||◌, List, [], ◌∷◌, length, Option, Some, None, map, refl, ap, sym, ◌∙◌, bytes_eq, if◌then◌else◌}
-use Rattle.std.specs.List.{filter}
-use Rattle.std.proofs.lemmas.Bool.{eq-eqb, ne_eqb, true≢false}
+use Rattle.std.proofs.Common.{◌≡◌, ℕ, Bool, true, false, List, [], ◌∷◌, Option, Some, None, Result, Err, map, refl, ap, sym, ◌∙◌, bytes_eq, codes, if◌then◌else◌}
 use Rattle.std.proofs.lemmas.Slice.Eq.{bytes_eq-Decides}
+use Rattle.km_model.specs.declared.lines.Line.{Line}
+use Rattle.km_model.specs.declared.lines.NotACommand.{NotACommand}
+use Rattle.km_model.specs.Held.{same_bool}
 use Rattle.km_model.specs.Pieces.{Piece}
-use Rattle.km_model.specs.Grammar.{Rule, Reading, rules, apply_rule, refused_at}
+use Rattle.km_model.specs.Grammar.{Rule, Reading, rules, apply_rule, as_line, refused_at, words_read}
 use Rattle.km_script.specs.declared.keywords.Keyword.{Keyword}
-use Rattle.km_script.specs.declared.keywords.Keyword.TheVariants.{Memory}
-use Rattle.km_script.specs.Keywords.{text_of, read_as, all_keywords, has_length, keywords_of_length, keyword_in}
-
--- only the keywords count that have the length of the word
-of_length : (ks : List Keyword) (word : List ℕ) → keyword_in (filter (has_length (length word)) ks) word ≡ keyword_in ks word
-of_length [] word = refl
-of_length (k ∷ ks) word = by_tests (has_length (length word) k) (bytes_eq (text_of k) word) refl refl (of_length ks word)
-  where
-    by_tests : (l b : Bool) → has_length (length word) k ≡ l → bytes_eq (text_of k) word ≡ b
-        → keyword_in (filter (has_length (length word)) ks) word ≡ keyword_in ks word
-        → keyword_in (filter (has_length (length word)) (k ∷ ks)) word ≡ keyword_in (k ∷ ks) word
-    by_tests true b l e ih = rw l (ap (λ o. if bytes_eq (text_of k) word then Some k else o) ih)
-    by_tests false false l e ih = rw (l, e) ih
-    by_tests false true l e ih =
-        let same : length (text_of k) ≡ length word = ap length ((bytes_eq-Decides (text_of k) word).0 e) in
-        absurd (cc (eq-eqb (length (text_of k)) (length word) same, l))
-
--- the keywords of a word's length
-pub keywords_at : (n : ℕ) (word : List ℕ) → length word ≡ n → keyword_in (keywords_of_length n) word ≡ keyword_in all_keywords word
-keywords_at n word e = ap (λ k. keyword_in (keywords_of_length k) word) (sym e) ∙ of_length all_keywords word
+use Rattle.km_script.specs.Keywords.{text_of, read_as, all_keywords, keyword_in}
 
 -- the rule of a keyword
 abbrev rule_of : Keyword → Rule
@@ -34,7 +16,7 @@ rules_are : map rule_of all_keywords ≡ rules
 rules_are = refl
 
 -- what a word is read as that is this keyword or none
-abbrev pub by_keyword : Option Keyword → Piece → ℕ → List Piece → Reading
+abbrev by_keyword : Option Keyword → Piece → ℕ → List Piece → Reading
 by_keyword None p end ps = refused_at p.column
 by_keyword (Some k) p end ps = read_as k end ps
 
@@ -47,16 +29,9 @@ by_rules (k ∷ ks) p end ps =
     ]
 
 -- the table of commands, by keywords
-pub apply_by_keyword : (p : Piece) (end : ℕ) (ps : List Piece) (o : Option Keyword) → o ≡ keyword_in all_keywords p.bytes → by_keyword o p end ps ≡ apply_rule rules p end ps
-apply_by_keyword p end ps o e = ap (λ k. by_keyword k p end ps) e ∙ sym (by_rules all_keywords p end ps) ∙ ap (λ rs. apply_rule rs p end ps) rules_are
-
--- the lengths that keywords have
-abbrev is_keyword_length : ℕ → Bool
-is_keyword_length n = n == 3 || n == 4 || n == 5 || n == 6 || n == 7 || n == 8 || n == 9 || n == 14
-
-keyword_has_length : (k : Keyword) → is_keyword_length (length (text_of k)) ≡ true
-keyword_has_length Memory = refl
-keyword_has_length _ = refl
+apply_by_keyword : (p : Piece) (end : ℕ) (ps : List Piece) (o : Option Keyword) → keyword_in all_keywords p.bytes ≡ o → apply_rule rules p end ps ≡ by_keyword o p end ps
+apply_by_keyword p end ps o e =
+    ap (λ rs. apply_rule rs p end ps) (sym rules_are) ∙ by_rules all_keywords p end ps ∙ ap (λ k. by_keyword k p end ps) e
 
 found : (ks : List Keyword) (word : List ℕ) (k : Keyword) → keyword_in ks word ≡ Some k → text_of k ≡ word
 found [] word k e = absurd (cc)
@@ -66,15 +41,32 @@ found (j ∷ ks) word k e = by_test (bytes_eq (text_of j) word) refl (found ks w
     by_test true h rest e = ap text_of (let same : k ≡ j = cc in same) ∙ (bytes_eq-Decides (text_of j) word).0 h
     by_test false h rest e = rest e
 
--- no keyword has another length
-pub no_keyword : (word : List ℕ) (n : ℕ) → length word ≡ n → n ≢ 3 → n ≢ 4 → n ≢ 5 → n ≢ 6 → n ≢ 7 → n ≢ 8 → n ≢ 9 → n ≢ 14 → None ≡ keyword_in all_keywords word
-no_keyword word n e three four five six seven eight nine fourteen =
-    by_answer (keyword_in all_keywords word) refl
-  where
-    other : is_keyword_length n ≡ false
-    other = rw (ne_eqb n 3 three, ne_eqb n 4 four, ne_eqb n 5 five, ne_eqb n 6 six, ne_eqb n 7 seven, ne_eqb n 8 eight, ne_eqb n 9 nine, ne_eqb n 14 fourteen) refl
+refused_both : (b : Bool) (column : ℕ) (r : Reading) → r ≡ refused_at column
+    → (let refused : Result Line NotACommand = Err (record { column = column }) in refused ≡ (if b then as_line r else refused))
+refused_both true column r e = ap as_line (sym e)
+refused_both false column r e = refl
 
-    by_answer : (o : Option Keyword) → keyword_in all_keywords word ≡ o → None ≡ o
-    by_answer None h = refl
-    by_answer (Some k) h =
-        absurd (true≢false (sym (keyword_has_length k) ∙ ap is_keyword_length (ap length (found all_keywords word k h) ∙ e) ∙ other))
+-- a line whose first word is no keyword
+pub words_of_none : (p : Piece) (end : ℕ) (ps : List Piece) (first : Bool) → keyword_in all_keywords p.bytes ≡ None
+    → Err (record { column = p.column }) ≡ words_read rules first end (p ∷ ps)
+words_of_none p end ps first e =
+    refused_both (same_bool (bytes_eq p.bytes (codes "memory")) first) p.column (apply_rule rules p end ps) (apply_by_keyword p end ps None e)
+
+-- a line whose first word is a keyword
+words_of_some : (k : Keyword) (p : Piece) (end : ℕ) (ps : List Piece) (first : Bool) → keyword_in all_keywords p.bytes ≡ Some k
+    → words_read rules first end (p ∷ ps) ≡ (if same_bool (bytes_eq (text_of k) (codes "memory")) first then as_line (read_as k end ps) else Err (record { column = p.column }))
+words_of_some k p end ps first e =
+    ap (λ r. if same_bool (bytes_eq p.bytes (codes "memory")) first then as_line r else Err (record { column = p.column })) (apply_by_keyword p end ps (Some k) e)
+    ∙ ap (λ word. if same_bool (bytes_eq word (codes "memory")) first then as_line (read_as k end ps) else Err (record { column = p.column })) (sym (found all_keywords p.bytes k e))
+
+-- a first command that isn't `memory`, or a later one that is
+pub words_of_wrong : (k : Keyword) (p : Piece) (end : ℕ) (ps : List Piece) (first : Bool) → keyword_in all_keywords p.bytes ≡ Some k
+    → same_bool (bytes_eq (text_of k) (codes "memory")) first ≡ false → Err (record { column = p.column }) ≡ words_read rules first end (p ∷ ps)
+words_of_wrong k p end ps first e wrong =
+    sym (words_of_some k p end ps first e ∙ ap (λ b. if b then as_line (read_as k end ps) else Err (record { column = p.column })) wrong)
+
+-- a command that may stand there
+pub words_of_right : (k : Keyword) (p : Piece) (end : ℕ) (ps : List Piece) (first : Bool) → keyword_in all_keywords p.bytes ≡ Some k
+    → same_bool (bytes_eq (text_of k) (codes "memory")) first ≡ true → as_line (read_as k end ps) ≡ words_read rules first end (p ∷ ps)
+words_of_right k p end ps first e right =
+    sym (words_of_some k p end ps first e ∙ ap (λ b. if b then as_line (read_as k end ps) else Err (record { column = p.column })) right)

@@ -1,5 +1,4 @@
-use Rattle.std.specs.Prelude.{ℕ, Bool, ◌==◌, List, [], ◌∷◌, length, Option, Some, None, bytes_eq, codes, if◌then◌else◌}
-use Rattle.std.specs.List.{filter}
+use Rattle.std.specs.Prelude.{ℕ, List, [], ◌∷◌, Option, Some, None, bytes_eq, codes, if◌then◌else◌}
 use Rattle.km_base.specs.Names.{name_of}
 use Rattle.km_model.specs.declared.lines.Command.TheVariants as command
 use Rattle.km_model.specs.Grammar.{Reading, allocation, alone, any_word, file_command, memory_size, number, number_within, one_word, operand, register_of, two_words}
@@ -75,14 +74,6 @@ read_as keyword.Finish end ps = alone command.Finish end ps
 abbrev pub all_keywords : List Keyword
 all_keywords =
     keyword.Memory ∷ keyword.Section ∷ keyword.Task ∷ keyword.Exit ∷ keyword.Set ∷ keyword.Load ∷ keyword.Store ∷ keyword.Erase ∷ keyword.Print ∷ keyword.Kmalloc ∷ keyword.Kzalloc ∷ keyword.Kfree ∷ keyword.Pages ∷ keyword.FreePages ∷ keyword.Vmalloc ∷ keyword.Vfree ∷ keyword.BootMem ∷ keyword.FreePart ∷ keyword.NotLeak ∷ keyword.Ignore ∷ keyword.NoScan ∷ keyword.ScanArea ∷ keyword.TransientLeak ∷ keyword.Write ∷ keyword.Read ∷ keyword.Tick ∷ keyword.Begin ∷ keyword.Step ∷ keyword.Finish ∷ []
-
--- whether a keyword has a length
-abbrev pub has_length : ℕ → Keyword → Bool
-has_length n k = length (text_of k) == n
-
--- the keywords of a length
-abbrev pub keywords_of_length : ℕ → List Keyword
-keywords_of_length n = filter (has_length n) all_keywords
 
 -- the first of these keywords that is a word
 abbrev pub keyword_in : List Keyword → List ℕ → Option Keyword

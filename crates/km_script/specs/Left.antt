@@ -1,14 +1,14 @@
-use Rattle.std.specs.Prelude.{ℕ, Bool, List, [], ◌∷◌, drop, Option, Some, None, option_map, Result, Ok, Err}
+use Rattle.std.specs.Prelude.{ℕ, List, [], ◌∷◌, drop, Option, Some, None, option_map, Result, Ok, Err}
 use Rattle.km_model.specs.declared.lines.NotACommand.{NotACommand}
 use Rattle.km_model.specs.declared.lines.RegName.{RegName}
 use Rattle.km_model.specs.Grammar.{register_of}
 use Rattle.km_model.specs.Pieces.{Piece}
 
--- what is left of a line: its words, the column behind the line, and whether the line has a byte that no command has
+-- what is left of a line: its words, the column behind the line, and the column of the line's first byte that no command has
 pub record Left : Type 0 where
   pub end : ℕ
   pub pieces : List Piece
-  pub foreign : Bool
+  pub foreign : Option ℕ
 
 -- the first word is taken
 abbrev pub behind_word : Left → Left

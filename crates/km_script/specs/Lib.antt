@@ -1,6 +1,6 @@
+pub mod Bytes
+pub mod Marks
 pub mod Left
-pub mod Built
 pub mod Words
 pub mod Keywords
 pub mod Roles
-pub mod Tables

@@ -1,27 +1,28 @@
-use Rattle.std.specs.Prelude.{ℕ, Bool, List, Option, Some, None, codes, option_map, ◌&&◌, not, nat_le}
+use Rattle.std.specs.Prelude.{◌≡◌, ℕ, ◌+◌, ◌<◌, false, List, ◌∷◌, length, drop}
+use Rattle.std.specs.List.{prefix_len}
 use Rattle.std.specs.Borrow.{Bor}
-use Rattle.km_base.specs.declared.acts.FileCmd.{FileCmd}
-use Rattle.km_base.specs.declared.acts.FileCmd.TheVariants.{ScanEvery, Dump}
-use Rattle.km_model.specs.Grammar.{number, number_within}
-use Rattle.km_model.specs.Pieces.{Piece, behind_prefix}
-use Rattle.km_script.specs.declared.words.Word.{Word}
+use Rattle.km_model.specs.Pieces.{Piece, is_blank}
+use Rattle.km_script.specs.declared.word.Word.{Word}
+
+-- the bytes of a word
+abbrev pub bytes_of_word : Word → List ℕ
+bytes_of_word w = w.first ∷ w.rest.now
 
 -- a word as a piece of its line
 abbrev pub piece_of : Word → Piece
-piece_of w = record { column = w.column; bytes = w.bytes.now }
+piece_of w = record { column = w.column; bytes = bytes_of_word w }
+
+-- bytes that are all blank
+abbrev pub IsAllBlank : List ℕ → Type 0
+IsAllBlank bytes = prefix_len is_blank bytes ≡ length bytes
+
+-- the first byte that is no blank, behind a number of blanks
+pub record IsFirstVisible (bytes : List ℕ) (blanks first : ℕ) : Type 0 where
+  pub count : blanks ≡ prefix_len is_blank bytes
+  pub within : blanks < length bytes
+  pub from : drop blanks bytes ≡ first ∷ drop (blanks + 1) bytes
+  pub visible : is_blank first ≡ false
 
 -- the bytes of a slice
 abbrev pub bytes_of : Bor (List ℕ) → List ℕ
 bytes_of b = b.now
-
--- a word of the file that has a number
-abbrev pub number_command : List ℕ → Option FileCmd
-number_command word =
-    elim (behind_prefix (codes "scan=") word) [
-      | Some n ↦ option_map ScanEvery (number_within 0 86400 n)
-      | None ↦ elim (behind_prefix (codes "dump=") word) [ Some n ↦ option_map Dump (number n) | None ↦ None ]
-    ]
-
--- a byte that ends a word or that no command has
-abbrev pub is_hidden : ℕ → Bool
-is_hidden c = not (nat_le 33 c && nat_le c 126)

@@ -1,9 +1,9 @@
 //! The words that are written to the file.
 
-ghost use Rattle.std.specs.Prelude.{◌≡◌, option_map};
-ghost use Rattle.km_model.specs.Grammar.{file_command as command_of_word, number as number_of, number_within as number_of_range};
+ghost use Rattle.std.specs.Prelude.{◌≡◌, ◌∷◌, ◌++◌, codes, option_map, Some, None, if◌then◌else◌};
+ghost use Rattle.km_model.specs.Grammar.{file_command as command_of_word};
 ghost use Rattle.km_model.specs.Pieces.{behind_prefix};
-ghost use Rattle.km_script.specs.Words.{bytes_of, number_command};
+ghost use Rattle.km_script.specs.Words.{bytes_of};
 
 use crate::numbers::{number, number_within};
 use crate::words::is;
@@ -19,16 +19,103 @@ fn behind<'a>(word: &'a [u8], prefix: &[u8]) -> Option<&'a [u8]>
     word.strip_prefix(prefix)
 }
 
-/// A word with a number: `scan=N` or `dump=A`.
-fn with_number(word: &[u8]) -> Option<FileCmd>
-    ensures { result ≡ number_command word.now }
+/// The word by what stands behind `scan=o`.
+fn scan_switch(rest: &[u8]) -> Option<FileCmd>
+    ensures { result ≡ command_of_word (codes "scan=o" ++ rest.now) }
 {
-    if let Some(seconds) = behind(word, b"scan=") {
-        let seconds = number_within(0, LONGEST_PERIOD, seconds)?;
-        return Some(FileCmd::ScanEvery(seconds as u32));
+    if is(rest, b"n") {
+        Some(FileCmd::ScanOn)
+    } else if is(rest, b"ff") {
+        Some(FileCmd::ScanOff)
+    } else {
+        None
     }
-    let address = behind(word, b"dump=")?;
+}
+
+/// The word by what stands behind `scan=`.
+fn scan_value(rest: &[u8]) -> Option<FileCmd>
+    ensures { result ≡ command_of_word (codes "scan=" ++ rest.now) }
+{
+    match rest {
+        [b'o', rest @ ..] => scan_switch(rest),
+        [first, rest @ ..] => {
+            let seconds = number_within(0, LONGEST_PERIOD, *first, rest)?;
+            Some(FileCmd::ScanEvery(seconds as u32))
+        }
+        [] => None,
+    }
+}
+
+/// The word by what stands behind `scan`.
+fn behind_scan(rest: &[u8]) -> Option<FileCmd>
+    ensures { result ≡ command_of_word (codes "scan" ++ rest.now) }
+{
+    match rest {
+        [] => Some(FileCmd::Scan),
+        [b'=', value @ ..] => scan_value(value),
+        _ => None,
+    }
+}
+
+/// The word by what stands behind `sc`.
+fn scan(rest: &[u8]) -> Option<FileCmd>
+    ensures { result ≡ command_of_word (codes "sc" ++ rest.now) }
+{
+    let end = behind(rest, b"an")?;
+    behind_scan(end)
+}
+
+/// The word by what stands behind `st`.
+fn stack(rest: &[u8]) -> Option<FileCmd>
+    ensures { result ≡ command_of_word (codes "st" ++ rest.now) }
+{
+    let switch = behind(rest, b"ack=o")?;
+    if is(switch, b"n") {
+        Some(FileCmd::StackOn)
+    } else if is(switch, b"ff") {
+        Some(FileCmd::StackOff)
+    } else {
+        None
+    }
+}
+
+/// The word by what stands behind `s`.
+fn scan_or_stack(rest: &[u8]) -> Option<FileCmd>
+    ensures { result ≡ command_of_word (codes "s" ++ rest.now) }
+{
+    match rest {
+        [b'c', rest @ ..] => scan(rest),
+        [b't', rest @ ..] => stack(rest),
+        _ => None,
+    }
+}
+
+/// The word by what stands behind `d`.
+fn dump(rest: &[u8]) -> Option<FileCmd>
+    ensures { result ≡ command_of_word (codes "d" ++ rest.now) }
+{
+    let address = behind(rest, b"ump=")?;
     number(address).map(FileCmd::Dump)
+}
+
+/// A command, if it is so.
+fn given(is_given: bool, command: FileCmd) -> Option<FileCmd>
+    ensures { result ≡ (if is_given then Some command else None) }
+{
+    if is_given { Some(command) } else { None }
+}
+
+/// The command that a word of the file is, by its first byte and the bytes behind it. Each byte is looked at once.
+pub fn file_command_behind(first: u8, rest: &[u8]) -> Option<FileCmd>
+    ensures { result ≡ command_of_word (first ∷ rest.now) }
+{
+    match first {
+        b'o' => given(is(rest, b"ff"), FileCmd::Off),
+        b'c' => given(is(rest, b"lear"), FileCmd::Clear),
+        b's' => scan_or_stack(rest),
+        b'd' => dump(rest),
+        _ => None,
+    }
 }
 
 /// The command that a word of the file is, or `None` for every other word.
@@ -38,21 +125,8 @@ fn with_number(word: &[u8]) -> Option<FileCmd>
 pub fn file_command(word: &[u8]) -> Option<FileCmd>
     ensures { result ≡ command_of_word word.now }
 {
-    if is(word, b"off") {
-        Some(FileCmd::Off)
-    } else if is(word, b"stack=on") {
-        Some(FileCmd::StackOn)
-    } else if is(word, b"stack=off") {
-        Some(FileCmd::StackOff)
-    } else if is(word, b"scan=on") {
-        Some(FileCmd::ScanOn)
-    } else if is(word, b"scan=off") {
-        Some(FileCmd::ScanOff)
-    } else if is(word, b"scan") {
-        Some(FileCmd::Scan)
-    } else if is(word, b"clear") {
-        Some(FileCmd::Clear)
-    } else {
-        with_number(word)
+    match word {
+        [first, rest @ ..] => file_command_behind(*first, rest),
+        [] => None,
     }
 }

@@ -1,19 +1,21 @@
 //! Reads the lines of a script.
 #![tactic(auto)]
 
-mod commands;
+mod bytes;
 mod file;
 mod keywords;
 mod line;
+mod marks;
 mod numbers;
 mod operands;
 mod rows;
 mod rules;
+mod word;
 mod words;
 
 pub use file::file_command;
 pub use km_model::{Base, Command, Line, NotACommand, Operand, RegName};
-pub use line::{read_built_line, read_line};
+pub use line::read_line;
 
 #[cfg(test)]
 mod tests;

@@ -1,9 +1,9 @@
 //! Numbers in a range.
 
-ghost use Rattle.std.specs.Prelude.{◌≡◌};
+ghost use Rattle.std.specs.Prelude.{◌≡◌, ◌∷◌};
 ghost use Rattle.km_model.specs.Grammar.{memory_size as memory_size_of, number as number_of, number_within as number_of_range};
 
-use km_base::read_number;
+use km_base::{read_number, read_number_behind};
 
 /// The least and the greatest number of words that a memory can have.
 const LEAST_MEMORY: u64 = 512;
@@ -17,16 +17,23 @@ pub fn number(word: &[u8]) -> Option<u64>
     read_number(word).ok()
 }
 
-/// A number from `low` to `high`.
-pub fn number_within(low: u64, high: u64, word: &[u8]) -> Option<u64>
-    ensures { result ≡ number_of_range low high word.now }
+/// The same, by its first byte and the bytes behind it.
+pub fn number_behind(first: u8, rest: &[u8]) -> Option<u64>
+    ensures { result ≡ number_of (first ∷ rest.now) }
 {
-    number(word).filter(|n| low <= *n && *n <= high)
+    read_number_behind(first, rest).ok()
+}
+
+/// A number from `low` to `high`, by its first byte and the bytes behind it.
+pub fn number_within(low: u64, high: u64, first: u8, rest: &[u8]) -> Option<u64>
+    ensures { result ≡ number_of_range low high (first ∷ rest.now) }
+{
+    number_behind(first, rest).filter(|n| low <= *n && *n <= high)
 }
 
 /// A number of words that a memory can have: whole pages.
-pub fn memory_size(word: &[u8]) -> Option<u64>
-    ensures { result ≡ memory_size_of word.now }
+pub fn memory_size(first: u8, rest: &[u8]) -> Option<u64>
+    ensures { result ≡ memory_size_of (first ∷ rest.now) }
 {
-    number_within(LEAST_MEMORY, GREATEST_MEMORY, word).filter(|n| *n % 512 == 0)
+    number_within(LEAST_MEMORY, GREATEST_MEMORY, first, rest).filter(|n| *n % 512 == 0)
 }

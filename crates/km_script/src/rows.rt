@@ -5,7 +5,7 @@ ghost use Rattle.km_base.specs.Names.{name_of};
 ghost use Rattle.km_model.specs.Grammar.{allocation, alone, any_word, file_command as file_command_of, memory_size, number, number_within, one_word, operand, register_of, two_words};
 ghost use Rattle.km_model.specs.declared.lines.Command.TheVariants as command;
 
-use crate::file::file_command;
+use crate::file::file_command_behind;
 use crate::words::Words;
 use km_model::{Base, Command, NotACommand, Operand};
 
@@ -239,7 +239,7 @@ pub fn write(words: &mut Words) -> Result<Command, NotACommand>
     ensures kept { words.new.foreign ≡ words.old.foreign }
 {
     let word = words.only_word()?;
-    Ok(Command::Write(file_command(word)))
+    Ok(Command::Write(file_command_behind(word.first, word.rest)))
 }
 
 /// `read`

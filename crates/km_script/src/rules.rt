@@ -1,17 +1,15 @@
 //! The commands of the whole language.
 
 ghost use Rattle.std.specs.Prelude.{◌≡◌};
-ghost use Rattle.km_model.specs.Grammar.{apply_rule, rules};
 ghost use Rattle.km_script.specs.Keywords.{read_as};
-ghost use Rattle.km_script.specs.Words.{piece_of};
 
 use crate::keywords::Keyword;
 use crate::rows;
-use crate::words::{Word, Words};
+use crate::words::Words;
 use km_model::{Command, NotACommand};
 
 /// The command that begins with a keyword, and has these words behind it.
-fn read_by(keyword: Keyword, words: &mut Words) -> Result<Command, NotACommand>
+pub fn read_by(keyword: Keyword, words: &mut Words) -> Result<Command, NotACommand>
     ensures read { result ≡ read_as keyword words.old.end words.old.pieces }
     ensures kept { words.new.foreign ≡ words.old.foreign }
 {
@@ -45,16 +43,5 @@ fn read_by(keyword: Keyword, words: &mut Words) -> Result<Command, NotACommand>
         Keyword::Begin => rows::begin(words),
         Keyword::Step => rows::step(words),
         Keyword::Finish => rows::finish(words),
-    }
-}
-
-/// The command that begins with a word, and has these words behind it.
-pub fn read_any_command(word: Word, words: &mut Words) -> Result<Command, NotACommand>
-    ensures read { result ≡ apply_rule rules (piece_of word.entry) words.old.end words.old.pieces }
-    ensures kept { words.new.foreign ≡ words.old.foreign }
-{
-    match Keyword::of(word.bytes) {
-        Some(keyword) => read_by(keyword, words),
-        None => Err(word.refused()),
     }
 }

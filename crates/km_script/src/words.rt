@@ -1,25 +1,22 @@
 //! The words of a line.
 
-ghost use Rattle.std.specs.Prelude.{◌≡◌, ℕ, ◌+◌, ◌≤◌, [], ◌∷◌, bytes_eq, option_map, length, position, take};
-ghost use Rattle.std.specs.List.{list_any, prefix_len, position_or_len};
+ghost use Rattle.std.specs.Prelude.{◌≡◌, ◌+◌, ◌≤◌, [], ◌∷◌, bytes_eq, drop, length, option_map, position, MatchOption};
+ghost use Rattle.std.specs.List.{position_from};
 ghost use Rattle.km_base.specs.Names.{name_of};
 ghost use Rattle.km_model.specs.Grammar.{any_word, is_comment, is_foreign as is_foreign_byte, memory_size as memory_size_of, number as number_of, number_within as number_of_range, operand as operand_of_word, register_of as register_of_word};
-ghost use Rattle.km_model.specs.Pieces.{goes_on, is_blank as is_blank_byte, pieces};
+ghost use Rattle.km_model.specs.Pieces.{is_blank as is_blank_byte, pieces};
 ghost use Rattle.km_script.specs.Left.{Left, behind_word, first_or_end, first_piece, map_ok, none_left as nothing_left, only_said, register_or_none as register_or_nothing, word_said};
-ghost use Rattle.km_script.specs.Words.{bytes_of, is_hidden as is_hidden_byte, piece_of};
+ghost use Rattle.km_script.specs.Marks.{if_here, or_first};
+ghost use Rattle.km_script.specs.Words.{IsAllBlank, IsFirstVisible, bytes_of_word, piece_of};
 
-use crate::numbers::{memory_size, number, number_within};
+use crate::bytes::{is_blank, is_foreign};
+use crate::marks::marks_of;
+use crate::numbers::{memory_size, number_behind, number_within};
 use crate::operands::{operand, register_of};
+use crate::word::Word;
 use km_base::Name;
 use km_model::{NotACommand, Operand, RegName};
 use std::marker::Model;
-
-/// A word of a line, and the column of its first byte, from 1.
-#[derive(Clone, Copy)]
-pub struct Word<'a> {
-    pub column: u32,
-    pub bytes: &'a [u8],
-}
 
 impl<'a> Word<'a> {
     /// The refusal of a line in which this word doesn't fit.
@@ -35,10 +32,7 @@ impl<'a> Word<'a> {
     pub fn begins_comment(&self) -> bool
         ensures { result ≡ is_comment (piece_of self.now ∷ []) }
     {
-        match self.bytes {
-            [first, ..] => *first == b'#',
-            [] => false,
-        }
+        self.first == b'#'
     }
 }
 
@@ -48,20 +42,21 @@ pub struct Words<'a> {
     rest: &'a [u8],
     column: u32,
     end: u32,
-    /// Whether a byte that no command has was passed.
-    foreign: bool,
+    /// The column of the first byte that no command has, if one was passed.
+    foreign: Option<u32>,
 }
 
 impl<'a> Model for Words<'a> {
-    ghost use Rattle.std.specs.Prelude.{◌≡◌, ◌≤◌, ◌+◌, ◌||◌, length};
-    ghost use Rattle.std.specs.List.{list_any};
+    ghost use Rattle.std.specs.Prelude.{◌≡◌, ◌≤◌, ◌+◌, length};
+    ghost use Rattle.std.specs.List.{position_from};
     ghost use Rattle.km_model.specs.Grammar.{is_foreign};
     ghost use Rattle.km_model.specs.Pieces.{pieces_from};
     ghost use Rattle.km_script.specs.Left.{Left};
+    ghost use Rattle.km_script.specs.Marks.{or_first};
 
     ghost Value = { Left };
 
-    ghost view = { λ a. record { end = a.end; pieces = pieces_from a.column a.rest.now; foreign = a.foreign || list_any is_foreign a.rest.now } };
+    ghost view = { λ a. record { end = a.end; pieces = pieces_from a.column a.rest.now; foreign = or_first a.foreign (position_from is_foreign a.column a.rest.now) } };
 
     ghost invariant = { λ a. (a.column + length a.rest.now ≡ a.end) × (a.end ≤ 257) };
 }
@@ -73,88 +68,60 @@ pub fn is(word: &[u8], keyword: &[u8]) -> bool
     keyword == word
 }
 
-/// Whether a byte stands between words: a space, a tab or a carriage return.
-pub fn is_blank(c: u8) -> bool
-    ensures { result ≡ is_blank_byte c }
+/// The number of blanks at the front, and the first byte behind them.
+fn first_visible(bytes: &[u8]) -> Option<(usize, u8)>
+    ensures { MatchOption result (IsAllBlank bytes.now) (λ found. IsFirstVisible bytes.now found.0 found.1) }
 {
-    c == b' ' || c == b'\t' || c == b'\r'
+    for (i, c) in bytes.iter().enumerate() {
+        if !is_blank(*c) {
+            return Some((i, *c));
+        }
+    }
+    None
 }
 
-/// The number of blanks at the front.
-fn count_blanks(bytes: &[u8]) -> usize
-    ensures count { result ≡ prefix_len is_blank_byte bytes.now }
-    ensures within { result ≤ length bytes.now }
-{
-    bytes.iter().take_while(|c| is_blank(**c)).count()
-}
-
-/// Whether no command has this byte.
-fn is_foreign(c: u8) -> bool
-    ensures { result ≡ is_foreign_byte c }
-{
-    !is_blank(c) && !(32 <= c && c <= 126)
-}
-
-/// Whether a byte ends a word or no command has it.
-fn is_hidden(c: u8) -> bool
-    ensures { result ≡ is_hidden_byte c }
-{
-    !(33 <= c && c <= 126)
-}
-
-/// The place of the first byte that no command has.
-pub fn first_foreign(bytes: &[u8]) -> Option<usize>
-    ensures { result ≡ position is_foreign_byte bytes.now }
-{
-    bytes.iter().position(|c| is_foreign(*c))
-}
-
-/// Whether one of these bytes is one that no command has.
-fn has_foreign(bytes: &[u8]) -> bool
-    ensures { result ≡ list_any is_foreign_byte bytes.now }
-{
-    bytes.iter().any(|c| is_foreign(*c))
-}
-
-/// The number of bytes before the first that ends a word or that no command has.
-fn count_visible(bytes: &[u8]) -> usize
-    ensures count { result ≡ position_or_len is_hidden_byte bytes.now }
-    ensures within { result ≤ length bytes.now }
-{
-    bytes.iter().take_while(|c| !is_hidden(**c)).count()
-}
-
-/// The length of the word at the front.
-fn word_length(bytes: &[u8]) -> usize
-    ensures count { result ≡ position_or_len is_blank_byte bytes.now }
-    ensures within { result ≤ length bytes.now }
-{
-    bytes.iter().take_while(|c| !is_blank(**c)).count()
-}
-
-/// Whether bytes begin with one that is no blank.
-fn begins_word(bytes: &[u8]) -> bool
-    ensures { result ≡ goes_on bytes.now }
+/// What stands behind the byte at the front, which isn't looked at.
+fn behind_one(bytes: &[u8]) -> &[u8]
+    ensures { result.now ≡ drop 1 bytes.now }
 {
     match bytes {
-        [first, ..] => !is_blank(*first),
-        [] => false,
+        [_, rest @ ..] => rest,
+        [] => bytes,
     }
 }
 
-/// The length of the word at the front, and whether it has a byte that no command has.
-fn front_word(bytes: &[u8]) -> (usize, bool)
-    ensures count { result.0 ≡ position_or_len is_blank_byte bytes.now }
-    ensures within { result.0 ≤ length bytes.now }
-    ensures foreign { result.1 ≡ list_any is_foreign_byte (take result.0 bytes.now) }
+/// The column of the first byte that no command has, of a word's first byte and those behind it.
+fn foreign_in(column: u32, first: u8, behind: Option<u32>) -> Option<u32>
+    ensures { result ≡ or_first (if_here (is_foreign_byte first) column) behind }
 {
-    let visible = count_visible(bytes);
-    let (_, behind) = bytes.split_at(visible);
-    if begins_word(behind) {
-        (word_length(bytes), true)
+    if is_foreign(first) {
+        Some(column)
     } else {
-        (visible, false)
+        behind
     }
+}
+
+/// The first of two columns.
+fn first_of(before: Option<u32>, behind: Option<u32>) -> Option<u32>
+    ensures { result ≡ or_first before behind }
+{
+    match before {
+        Some(column) => Some(column),
+        None => behind,
+    }
+}
+
+/// The column of the first byte that no command has, of bytes of which the first stands at a column.
+fn first_foreign(column: u32, bytes: &[u8]) -> Option<u32>
+    requires { column + length bytes.now ≤ 257 }
+    ensures { result ≡ position_from is_foreign_byte column bytes.now }
+{
+    for (i, c) in bytes.iter().enumerate() {
+        if is_foreign(*c) {
+            return Some(column + i as u32);
+        }
+    }
+    None
 }
 
 impl<'a> Words<'a> {
@@ -163,40 +130,49 @@ impl<'a> Words<'a> {
         requires { length line.now ≤ 256 }
         ensures end { result.end ≡ length line.now + 1 }
         ensures all { result.pieces ≡ pieces line.now }
-        ensures foreign { result.foreign ≡ list_any is_foreign_byte line.now }
+        ensures foreign { result.foreign ≡ position_from is_foreign_byte 1 line.now }
     {
         Words {
             rest: line,
             column: 1,
             end: line.len() as u32 + 1,
-            foreign: false,
+            foreign: None,
         }
     }
 
-    /// Whether the line has a byte that no command has: one that was passed, or one that is left.
-    pub fn foreign(&self) -> bool
+    /// The column of the line's first byte that no command has: it was passed, or is among those that are left.
+    pub fn foreign(&self) -> Option<u32>
         ensures { result ≡ self.now.foreign }
     {
-        self.foreign || has_foreign(self.rest)
+        match self.foreign {
+            Some(column) => Some(column),
+            None => first_foreign(self.column, self.rest),
+        }
     }
 
-    /// The next word.
+    /// The next word. Each byte is looked at once, up to the blank behind the word.
     pub fn next(&mut self) -> Option<Word<'a>>
         ensures word { option_map piece_of result ≡ first_piece self.old.pieces }
         ensures rest { self.new ≡ behind_word self.old }
     {
-        let blanks = count_blanks(self.rest);
-        let (_, from_word) = self.rest.split_at(blanks);
-        let (length, foreign) = front_word(from_word);
-        let (bytes, rest) = from_word.split_at(length);
-        if bytes.is_empty() {
+        let Some((blanks, first)) = first_visible(self.rest) else {
             return None;
-        }
+        };
         let column = self.column + blanks as u32;
-        self.column = column + bytes.len() as u32;
-        self.rest = rest;
-        self.foreign |= foreign;
-        Some(Word { column, bytes })
+        let (_, behind) = self.rest.split_at(blanks + 1);
+        let marks = marks_of(column + 1, behind);
+        let (rest, from_blank) = behind.split_at(marks.length);
+        let left = behind_one(from_blank);
+        self.foreign = first_of(self.foreign, foreign_in(column, first, marks.foreign));
+        self.column = self.end - left.len() as u32;
+        self.rest = left;
+        Some(Word {
+            column,
+            first,
+            rest,
+            dot: marks.dot,
+            plus: marks.plus,
+        })
     }
 
     /// The next word, which has to be there.
@@ -216,7 +192,7 @@ impl<'a> Words<'a> {
         ensures rest { self.new ≡ behind_word self.old }
     {
         let word = self.expect()?;
-        number(word.bytes).ok_or(word.refused())
+        number_behind(word.first, word.rest).ok_or(word.refused())
     }
 
     /// The next word is a number in a range.
@@ -225,7 +201,7 @@ impl<'a> Words<'a> {
         ensures rest { self.new ≡ behind_word self.old }
     {
         let word = self.expect()?;
-        number_within(low, high, word.bytes).ok_or(word.refused())
+        number_within(low, high, word.first, word.rest).ok_or(word.refused())
     }
 
     /// The next word is a number of words that a memory can have.
@@ -234,7 +210,7 @@ impl<'a> Words<'a> {
         ensures rest { self.new ≡ behind_word self.old }
     {
         let word = self.expect()?;
-        memory_size(word.bytes).ok_or(word.refused())
+        memory_size(word.first, word.rest).ok_or(word.refused())
     }
 
     /// The next word is a name.
@@ -243,7 +219,7 @@ impl<'a> Words<'a> {
         ensures rest { self.new ≡ behind_word self.old }
     {
         let word = self.expect()?;
-        Name::read(word.bytes).ok_or(word.refused())
+        Name::read_behind(word.first, word.rest).ok_or(word.refused())
     }
 
     /// The next word is a register.
@@ -252,7 +228,7 @@ impl<'a> Words<'a> {
         ensures rest { self.new ≡ behind_word self.old }
     {
         let word = self.expect()?;
-        register_of(word.bytes).ok_or(word.refused())
+        register_of(word).ok_or(word.refused())
     }
 
     /// The next word is an operand.
@@ -261,7 +237,7 @@ impl<'a> Words<'a> {
         ensures rest { self.new ≡ behind_word self.old }
     {
         let word = self.expect()?;
-        match operand(word.bytes) {
+        match operand(word) {
             Some(operand) => Ok(operand),
             None => Err(word.refused()),
         }
@@ -329,13 +305,13 @@ impl<'a> Words<'a> {
     }
 
     /// The only word that is left is any word.
-    pub fn only_word(&mut self) -> Result<&'a [u8], NotACommand>
-        ensures said { map_ok bytes_of result ≡ only_said any_word self.old }
+    pub fn only_word(&mut self) -> Result<Word<'a>, NotACommand>
+        ensures said { map_ok bytes_of_word result ≡ only_said any_word self.old }
         ensures kept { self.new.foreign ≡ self.old.foreign }
     {
         let word = self.expect()?;
         self.none_left()?;
-        Ok(word.bytes)
+        Ok(word)
     }
 
     /// The only word that is left is a register, or none is left.
@@ -346,7 +322,7 @@ impl<'a> Words<'a> {
         let Some(word) = self.next() else {
             return Ok(None);
         };
-        let reg = register_of(word.bytes).ok_or(word.refused())?;
+        let reg = register_of(word).ok_or(word.refused())?;
         self.none_left()?;
         Ok(Some(reg))
     }
