@@ -98,6 +98,7 @@ impl Record {
     }
 
     /// The least index, at `from` or above, of a word of the block that is scanned.
+    #[inline(always)]
     pub fn next_word(&self, from: u64) -> Option<u64>
         requires { IsLaid self.now }
         ensures least { option_map (λ i. self.now.span.start.0 + 8 * i) result ≡ scanned_from (self.now.span.start.0 + 8 * from) (block_of 0 self.now) }

@@ -46,6 +46,7 @@ fn passed_on<M: ObjectMap>(
 
 /// The white block, other than the holder, that a value in a word of the holder refers to: the one
 /// into which it points, or, where that is grey, the one to which its references are passed on.
+#[inline(always)]
 fn referred<M: ObjectMap>(track: &Track<M>, holder: Option<u64>, value: u64) -> Option<RecId>
     ensures hit { (place : Place) → place.phase ≢ 3 → holder ≡ holder_of place → option_map (λ i. i.generation) result ≡ hit_in (tracked_in track.now) place value }
     ensures live { IfSome result (λ i. (l : Live) × (live_with i track.now ≡ Some l) × (is_white_now l.tracked ≡ true)) }
