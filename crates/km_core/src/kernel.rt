@@ -519,8 +519,24 @@ impl<M: ObjectMap> Kernel<M> {
         }
     }
 
-    /// Answers an act.
+    /// Answers an act. A step, of which a scan makes one a word, doesn't go through the table.
+    #[inline(always)]
     pub fn act<W: Words>(&mut self, words: &mut W, act: Act) -> Answer
+        requires ready { IsReady self.old }
+        requires size { (W.told words.old).size ≡ self.old.words }
+        requires small { (n : ℕ) → act ≡ acts.Tick n → self.old.settings.now + n ≤ 2 ^ 62 }
+        ensures answers { Answers self.old self.new act result }
+        ensures words { Touches act result (W.told words.old) (W.told words.new) }
+    {
+        if let Act::Step = act {
+            return self.step(words);
+        }
+        self.answer_by_table(words, act)
+    }
+
+    /// Answers an act by the helper that owns it.
+    #[inline(never)]
+    fn answer_by_table<W: Words>(&mut self, words: &mut W, act: Act) -> Answer
         requires ready { IsReady self.old }
         requires size { (W.told words.old).size ≡ self.old.words }
         requires small { (n : ℕ) → act ≡ acts.Tick n → self.old.settings.now + n ≤ 2 ^ 62 }
