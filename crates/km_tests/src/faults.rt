@@ -1,9 +1,20 @@
 //! Pieces, faults and words.
 
-use crate::run::{calls, run_in_pieces, run_whole};
+use crate::notation::{report_of, script_of};
+use crate::run::{calls, run_in_pieces, run_whole, text_of};
 use km_edge::{CountSink, MemSink, MemSource};
 use km_engine::{Status, run};
 use std::test::Fail;
+
+/// A script whose second scan finds a leak.
+const LEAK: &str = "memory 4096 | kmalloc 64 | tick 1000 | write scan | read | write scan | read";
+
+/// What it writes, with the byte that ends the line that writes it.
+const PARTS: [(u64, &str); 3] = [
+    (23, "kmalloc B+1000"),
+    (60, "NEW(1)"),
+    (65, "LEAK(B+1000, 64, 1000)"),
+];
 
 /// A script whose third line, up to byte 40, is the one that prints.
 const SCRIPT: &[u8] = b"memory 4096\nsection data 8\nkmalloc 4096\nwrite scan\nread\n";
@@ -23,29 +34,45 @@ fn pieces_change_nothing(rt: HostRuntime) -> Result<(), Fail> {
 
 #[test]
 fn a_failed_read_leaves_the_texts_of_the_whole_lines(rt: HostRuntime) -> Result<(), Fail> {
-    for number in 1..SCRIPT.len() as u64 + 2 {
-        let report = run_in_pieces(rt.alloc(), SCRIPT, 1, number, 100)?;
-        let text = if number > 40 { TEXT } else { b"".as_slice() };
+    let script = script_of(rt.alloc(), LEAK)?;
+    for number in 1..script.len() as u64 + 2 {
+        let report = run_in_pieces(rt.alloc(), script.as_bytes(), 1, number, 1000)?;
+        let mut text = String::new(rt.alloc());
+        for (end, part) in PARTS {
+            if number > end {
+                text.push_str(report_of(rt.alloc(), part)?.as_str())?;
+            }
+        }
+        assert_eq!(rt;
+            text_of(&report)?,
+            text.as_str(),
+            "where read {number} fails"
+        );
         assert_eq!(rt;
             report.status,
             Status::ReadFault,
             "where read {number} fails"
         );
-        assert_eq!(rt; report.text.as_slice(), text, "where read {number} fails");
     }
     Ok(())
 }
 
 #[test]
 fn a_full_sink_holds_the_first_bytes(rt: HostRuntime) -> Result<(), Fail> {
-    for room in 0..TEXT.len() {
-        let report = run_in_pieces(rt.alloc(), SCRIPT, 4096, 0, room)?;
+    let script = script_of(rt.alloc(), LEAK)?;
+    let whole = report_of(
+        rt.alloc(),
+        "kmalloc B+1000 | NEW(1) | LEAK(B+1000, 64, 1000)",
+    )?;
+    let whole = whole.as_bytes();
+    for room in 0..whole.len() {
+        let report = run_in_pieces(rt.alloc(), script.as_bytes(), 4096, 0, room)?;
         assert_eq!(rt; report.status, Status::WriteFault, "with room {room}");
-        assert_eq!(rt; report.text.as_slice(), &TEXT[..room], "with room {room}");
+        assert_eq!(rt; report.text.as_slice(), &whole[..room], "with room {room}");
     }
-    let report = run_in_pieces(rt.alloc(), SCRIPT, 4096, 0, TEXT.len())?;
+    let report = run_in_pieces(rt.alloc(), script.as_bytes(), 4096, 0, whole.len())?;
     assert_eq!(rt; report.status, Status::Ok);
-    assert_eq!(rt; report.text.as_slice(), TEXT);
+    assert_eq!(rt; report.text.as_slice(), whole);
     Ok(())
 }
 

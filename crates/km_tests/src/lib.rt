@@ -6,11 +6,25 @@ ghost use Rattle.std.specs.Prelude.{◌≡◌};
 #[cfg(test)]
 mod faults;
 #[cfg(test)]
+mod file;
+#[cfg(test)]
+mod hosts;
+#[cfg(test)]
+mod leaks;
+#[cfg(test)]
 mod lines;
+#[cfg(test)]
+mod memory;
+#[cfg(test)]
+mod midscan;
+#[cfg(test)]
+mod mixed;
+#[cfg(test)]
+mod notation;
 #[cfg(test)]
 mod run;
 #[cfg(test)]
-mod scripts;
+mod settings;
 #[cfg(test)]
 mod sizes;
 #[cfg(test)]

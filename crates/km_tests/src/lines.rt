@@ -24,7 +24,13 @@ fn first_scripts_give_their_reports(rt: HostRuntime) -> Result<(), Fail> {
 
 #[test]
 fn lines_are_refused_at_their_columns(rt: HostRuntime) -> Result<(), Fail> {
-    let rows: [(&[u8], u32, &[u8]); 18] = [
+    let rows: [(&[u8], u32, &[u8]); 20] = [
+        (b"kmalloc 8 9", 11, b"not a command: line 2, column 11\n"),
+        (
+            b"kmalloc 8 t.r0 x",
+            16,
+            b"not a command: line 2, column 16\n",
+        ),
         (b"kmalloc", 8, b"not a command: line 2, column 8\n"),
         (b"kmalloc 4096 9", 14, b"not a command: line 2, column 14\n"),
         (
@@ -133,25 +139,48 @@ fn the_first_command_is_memory(rt: HostRuntime) -> Result<(), Fail> {
     )
 }
 
+/// A script that is cut below.
+const CUT: &[u8] = b"memory 4096\nkmalloc 64";
+
 #[test]
-fn the_last_line_needs_no_line_feed(rt: HostRuntime) -> Result<(), Fail> {
+fn a_script_may_end_at_any_byte(rt: HostRuntime) -> Result<(), Fail> {
+    // From a number of bytes to another, the line and the column that are refused.
+    for (from, to, line, column) in [
+        (1, 5, 1, 1),
+        (6, 6, 1, 7),
+        (7, 7, 1, 8),
+        (8, 10, 1, 8),
+        (13, 18, 2, 1),
+        (19, 19, 2, 8),
+        (20, 20, 2, 9),
+    ] {
+        let text = format!(in rt.alloc(); "not a command: line {line}, column {column}\n")?;
+        for bytes in from..=to {
+            let script = &CUT[..bytes.min(CUT.len())];
+            let status = Status::NotACommand { line, column };
+            assert_report(&rt, script, status, text.as_bytes())?;
+        }
+    }
+    for (bytes, text) in [
+        (0, b"".as_slice()),
+        (11, b"".as_slice()),
+        (12, b"".as_slice()),
+        (21, b"kmalloc 0xffff888000001000\n".as_slice()),
+        (22, b"kmalloc 0xffff888000001000\n".as_slice()),
+    ] {
+        let script = &CUT[..bytes.min(CUT.len())];
+        assert_report(&rt, script, Status::Ok, text)?;
+    }
+    Ok(())
+}
+
+#[test]
+fn a_refused_line_ends_the_script(rt: HostRuntime) -> Result<(), Fail> {
     assert_report(
         &rt,
-        b"memory 4096\nkmall",
-        Status::NotACommand { line: 2, column: 1 },
-        b"not a command: line 2, column 1\n",
-    )?;
-    assert_report(
-        &rt,
-        b"memory 4096\nkmalloc ",
-        Status::NotACommand { line: 2, column: 9 },
-        b"not a command: line 2, column 9\n",
-    )?;
-    assert_report(
-        &rt,
-        b"memory 4096\nkmalloc 4096",
-        Status::Ok,
-        b"kmalloc 0xffff888000001000\n",
+        b"memory 1024\nkmalloc 8\nkmaloc 8\nkmalloc 8\n",
+        Status::NotACommand { line: 3, column: 1 },
+        b"kmalloc 0xffff888000001000\nnot a command: line 3, column 1\n",
     )
 }
 

@@ -2,6 +2,7 @@
 
 ghost use Rattle.std.specs.Prelude.{◌≤◌};
 
+use crate::notation::{report_of, script_of};
 use km_edge::{MemSink, MemSource};
 use km_engine::{Status, run};
 use std::alloc::Global;
@@ -61,5 +62,37 @@ pub fn assert_report(
     let report = run_whole(rt.alloc(), script)?;
     assert_eq!(rt; report.status, status, "the status of {script:?}");
     assert_eq!(rt; report.text.as_slice(), text, "the text of {script:?}");
+    Ok(())
+}
+
+/// What a run wrote, as text.
+pub fn text_of(report: &Report) -> Result<&str, Fail> {
+    Ok(str::from_utf8(report.text.as_slice())?)
+}
+
+/// Whether a script in the notation of the tables runs to its end, whatever pieces it comes in, and writes this report.
+pub fn assert_row(
+    rt: &(impl Abort + Alloc<A = Global>),
+    script: &str,
+    report: &str,
+) -> Result<(), Fail> {
+    let bytes = script_of(rt.alloc(), script)?;
+    let expected = report_of(rt.alloc(), report)?;
+    for piece in [1, 4096] {
+        let got = run_in_pieces(rt.alloc(), bytes.as_bytes(), piece, 0, AMPLE)?;
+        assert_eq!(rt; text_of(&got)?, expected.as_str(), "of {script}");
+        assert_eq!(rt; got.status, Status::Ok, "of {script}");
+    }
+    Ok(())
+}
+
+/// Whether each script of a table runs to its end and writes its report.
+pub fn assert_rows(
+    rt: &(impl Abort + Alloc<A = Global>),
+    rows: &[(&str, &str)],
+) -> Result<(), Fail> {
+    for (script, report) in rows {
+        assert_row(rt, script, report)?;
+    }
     Ok(())
 }
