@@ -8,7 +8,7 @@ use Rattle.km_edge.specs.Streams.{SinkState}
 use Rattle.km_edge.proofs.Writing.{wrote_none, wrote_more}
 use Rattle.km_engine.specs.Session.{Session, Place, StandsAt}
 use Rattle.km_engine.specs.Steps.{RanOn, RanAll, Stops, StopsAt}
-use Rattle.km_engine.proofs.LineLists.{IsLine}
+use Rattle.km_forms.proofs.LineLists.{IsLine}
 use Rattle.km_engine.proofs.Running.{ran_none, ran_more, ran_line, behind}
 
 -- nothing of what is held was run yet

@@ -13,54 +13,14 @@ use Rattle.km_model.specs.Text.{not_a_command_text}
 use Rattle.km_edge.specs.Streams.{SinkState, Rose, Wrote, StoppedAt}
 use Rattle.km_edge.proofs.Writing.{wrote_more, rose_later}
 use Rattle.km_engine.specs.Session.{Place, first_place}
-use Rattle.km_engine.specs.Outcome.{lines_in, IsPrefix, Ends, EndsWithin, EndsBehindMemory}
-use Rattle.km_engine.specs.Steps.{KeepsLong, RanFrom, StopsAt}
+use Rattle.km_forms.specs.Lines.{lines_in, IsPrefix}
+use Rattle.km_engine.specs.Outcome.{Ends, EndsWithin, EndsBehindMemory}
+use Rattle.km_forms.specs.Lines.{KeepsLong}
+use Rattle.km_engine.specs.Steps.{RanFrom, StopsAt}
+use Rattle.km_forms.proofs.Limits.{lines_split, within_limit}
 use Rattle.km_engine.proofs.Fronts.{prefix_trans, prints_front}
 use Rattle.km_engine.proofs.Totals.{has_output}
 use Rattle.km_engine.proofs.Running.{prints_refused, prints_from, ends_from}
-
-pub keeps_empty : KeepsLong is_empty
-keeps_empty [] h = absurd (omega (arith, h))
-keeps_empty (c ∷ cs) h = refl
-
-keeps_unread : KeepsLong is_unread
-keeps_unread l h = grind (arith, nat_tests)
-
--- bytes within the limit
-within_at : (bytes : List ℕ) (b : Bool) → b ≡ true
-    → ((if b then lines_in is_empty bytes else lines_in is_unread (take limit bytes)) ≡ lines_in is_empty bytes) × ((if b then status.Ok else status.TooLong) ≡ status.Ok)
-within_at bytes true e = (refl, refl)
-within_at bytes false e = absurd (cc)
-
-pub within_limit : (bytes : List ℕ) → length bytes ≤ limit → (lines_of bytes ≡ lines_in is_empty bytes) × (end_of_script bytes ≡ status.Ok)
-within_limit bytes h = within_at bytes (nat_le (length bytes) limit) (grind (arith, nat_tests))
-
--- bytes beyond the limit
-beyond_at : (front bytes : List ℕ) (b : Bool) → b ≡ false → take limit bytes ≡ front
-    → ((if b then lines_in is_empty bytes else lines_in is_unread (take limit bytes)) ≡ lines_in is_unread front) × ((if b then status.Ok else status.TooLong) ≡ status.TooLong)
-beyond_at front bytes true e h = absurd (cc)
-beyond_at front bytes false e h = (ap (lines_in is_unread) h, refl)
-
-pub beyond_limit : (front rest : List ℕ) → length front ≡ limit → 0 < length rest → (lines_of (front ++ rest) ≡ lines_in is_unread front) × (end_of_script (front ++ rest) ≡ status.TooLong)
-beyond_limit front rest size more =
-    let long : limit < length (front ++ rest) = omega (arith, size, more, length-append front rest) in
-    beyond_at front (front ++ rest) (nat_le (length (front ++ rest)) limit) (grind (arith, nat_tests)) (ap (λ n. take n (front ++ rest)) (sym size) ∙ take-append_seam front rest)
-
--- the lines of bytes of which a front is within the limit
-split_at : (n : ℕ) (front rest : List ℕ) (b : Bool) → nat_le (length (front ++ rest)) n ≡ b → length front ≤ n
-    → (dropped : List ℕ → Bool) × (more : List ℕ) × KeepsLong dropped
-    × ((if b then lines_in is_empty (front ++ rest) else lines_in is_unread (take n (front ++ rest))) ≡ lines_in dropped (front ++ more))
-split_at n front rest true e h = (is_empty, rest, keeps_empty, refl)
-split_at n front rest false e h = (
-  is_unread,
-  take (n - length front) rest,
-  keeps_unread,
-  ap (lines_in is_unread) (let whole : n ≡ length front + (n - length front) = omega (arith, h) in ap (λ k. take k (front ++ rest)) whole ∙ take-append-add front rest (n - length front)),
-)
-
-lines_split : (front rest : List ℕ) → length front ≤ limit
-    → (dropped : List ℕ → Bool) × (more : List ℕ) × KeepsLong dropped × (lines_of (front ++ rest) ≡ lines_in dropped (front ++ more))
-lines_split front rest h = split_at limit front rest (nat_le (length (front ++ rest)) limit) refl h
 
 -- lines at the front were run, and those behind them lead to a text: the whole lines do to both
 pub out_of : (front written rest out : List ℕ) (p : Place) (end : Script) → RanFrom first_place front written p → length (front ++ rest) ≤ limit

@@ -4,7 +4,7 @@ use Rattle.std.proofs.lemmas.List.{append-nil}
 use Rattle.km_model.specs.Grammar.{line_of}
 use Rattle.km_model.specs.Output.{Script, LineThen, Prints, is_fresh}
 use Rattle.km_model.proofs.OutputLaws.{prints_once}
-use Rattle.km_engine.specs.Outcome.{IsPrefix}
+use Rattle.km_forms.specs.Lines.{IsPrefix}
 use Rattle.km_engine.proofs.Stopping.{prints_one}
 
 pub prefix_trans : (a b c : List ℕ) → IsPrefix a b → IsPrefix b c → IsPrefix a c

@@ -1,4 +1,3 @@
-pub mod LineLists
 pub mod Fit
 pub mod Histories
 pub mod Timely

@@ -16,38 +16,20 @@ use Rattle.km_edge.specs.declared.lines.Cut.TheVariants as cut
 use Rattle.km_edge.specs.Lines.{Next, Whole, Unknown, next_of, seen}
 use Rattle.km_edge.specs.Lines.{is_empty as holds_none}
 use Rattle.km_engine.specs.Session.{Session, Place}
-use Rattle.km_engine.specs.Outcome.{lines_in}
+use Rattle.km_forms.specs.Lines.{lines_in}
 use Rattle.km_engine.specs.Steps.{RanOn, EndsAt, EndsRest, RestPrints}
-use Rattle.km_engine.proofs.LineLists.{NoFeed, held_more, one_piece}
+use Rattle.km_forms.proofs.Limits.{none_left, rest_line}
 use Rattle.km_engine.proofs.Running.{prints_refused}
 use Rattle.km_engine.proofs.Stopping.{prints_one}
-
--- the rest is one line
-rest_at : (held l : List ℕ) (next : Next) → NoFeed held → next ≡ (if not (holds_none held) then Whole held else Unknown) → Whole l ≡ next
-    → (l ≡ held) × (lines_in is_empty held ≡ l ∷ [])
-rest_at [] l next n e w = absurd (cc)
-rest_at (c ∷ cs) l next n e w =
-    let same : l ≡ c ∷ cs = cc in
-    (same, ap (all_but_last is_empty) (one_piece (c ∷ cs) n) ∙ ap (λ x. x ∷ []) (sym same))
-
-rest_line : (held l : List ℕ) → next_of false held ≡ Unknown → Whole l ≡ next_of true held → (l ≡ held) × (lines_in is_empty held ≡ l ∷ [])
-rest_line held l u w = let more = held_more held u in rest_at held l (next_of true held) more.0 more.2 w
 
 status_of_line : (first : Bool) (n : ℕ) (x : Line) → status_then first n (Ok x) (λ _. status.Ok) ≡ status.Ok
 status_of_line first n line.Blank = refl
 status_of_line first n (line.Command c) = refl
 
--- no line is left
-none_at : (held : List ℕ) (piece : Cut) → seen piece ≡ (if not (holds_none held) then Whole held else Unknown) → ((l : Bor (List ℕ)) → piece ≡ cut.Line l → ⊥) → held ≡ []
-none_at [] piece e none = refl
-none_at (c ∷ cs) (cut.Line l) e none = absurd (none l refl)
-none_at (c ∷ cs) cut.Long e none = absurd (cc)
-none_at (c ∷ cs) cut.More e none = absurd (cc)
-
 pub rest_none : (p : Place) (held : List ℕ) (k : SinkState) (piece : Cut) → next_of false held ≡ Unknown → seen piece ≡ next_of true held
     → ((l : Bor (List ℕ)) → piece ≡ cut.Line l → ⊥) → EndsRest p held k k status.Ok
 rest_none p held k piece u w none =
-    let empty = none_at held piece (w ∙ (held_more held u).2) none in
+    let empty = none_left held piece u w none in
     subst (λ h. EndsRest p h k k status.Ok) (sym empty) (([], (p.script, (refl, refl)), wrote_none k), refl)
 
 -- the rest was run

@@ -10,9 +10,9 @@ use Rattle.km_model.specs.Grammar.{rules, line_of}
 use Rattle.km_model.specs.Output.{Script, Fresh, Begun, Leads, LeadsLine, LineThen, Prints, is_fresh, status_from, status_then}
 use Rattle.km_model.specs.Text.{not_a_command_text}
 use Rattle.km_engine.specs.Session.{Place}
-use Rattle.km_engine.specs.Outcome.{lines_in}
+use Rattle.km_forms.specs.Lines.{lines_in}
 use Rattle.km_engine.specs.Steps.{RanFrom}
-use Rattle.km_engine.proofs.LineLists.{NoFeed, lines_cons}
+use Rattle.km_forms.proofs.LineLists.{NoFeed, lines_cons}
 
 -- what a line prints comes before what the lines behind it print
 pub prints_cons : (m next end : Script) (n : ℕ) (l : List ℕ) (ls : List (List ℕ)) (x : Line) (text out : List ℕ) → line_of (is_fresh m) l ≡ Ok x

@@ -11,12 +11,15 @@ use Rattle.km_edge.specs.Streams.{SourceState, SinkState, Rose, Wrote}
 use Rattle.km_edge.specs.Lines.{Unknown, next_of}
 use Rattle.km_edge.proofs.Writing.{wrote_none, wrote_more, rose_later}
 use Rattle.km_engine.specs.Session.{Session, Place, StandsAt, HasRoomFor, start, first_place}
-use Rattle.km_engine.specs.Outcome.{lines_in, Ends, EndsOver, EndsAsTold}
-use Rattle.km_engine.specs.Steps.{RanFrom, RanAll, Stops, RunsRest, EndsRest, TakesRoom, IsLeft, RunsScript}
-use Rattle.km_engine.proofs.LineLists.{held_more, one_piece}
+use Rattle.km_forms.specs.Lines.{lines_in}
+use Rattle.km_engine.specs.Outcome.{Ends, EndsOver, EndsAsTold}
+use Rattle.km_forms.specs.Lines.{IsLeft}
+use Rattle.km_engine.specs.Steps.{RanFrom, RanAll, Stops, RunsRest, EndsRest, TakesRoom, RunsScript}
+use Rattle.km_forms.proofs.Limits.{beyond_limit, no_line, within_limit}
+use Rattle.km_forms.proofs.Sources.{at_end, consumes_more, consumes_none, keeps_consumes, left_after, some_left}
 use Rattle.km_engine.proofs.Rooms.{less_room}
 use Rattle.km_engine.proofs.Running.{ran_none, ran_more, prints_from, ends_from}
-use Rattle.km_engine.proofs.Endings.{beyond_limit, within_limit, out_of, ends_within, ends_behind_memory, stop_at}
+use Rattle.km_engine.proofs.Endings.{out_of, ends_within, ends_behind_memory, stop_at}
 
 -- a run between two reads: some bytes were run, and the rest of those that were taken is held
 pub record Running (s0 s : SourceState) (k0 k : SinkState) (script : Session) (held : List ℕ) (total : ℕ) : Type 0 where
@@ -31,21 +34,6 @@ pub record Running (s0 s : SourceState) (k0 k : SinkState) (script : Session) (h
   pub size : total ≡ length front + length held
   pub room : length held ≤ 4096
   pub faults_kept : s0.faults ≤ s.faults
-
-consumes_none : (o : Option (List ℕ)) → Consumes o o []
-consumes_none None = tt
-consumes_none (Some xs) = refl
-
-consumes_more : (a b c : Option (List ℕ)) (xs ys : List ℕ) → Consumes a b xs → Consumes b c ys → Consumes a c (xs ++ ys)
-consumes_more None b c xs ys p q = tt
-consumes_more (Some a) None c xs ys p q = absurd p
-consumes_more (Some a) (Some b) None xs ys p q = absurd q
-consumes_more (Some a) (Some b) (Some c) xs ys p q = p ∙ ap (λ l. xs ++ l) q ∙ sym (append_assoc xs ys c)
-
-keeps_consumes : (a b : Option (List ℕ)) → Keeps a b → Consumes a b []
-keeps_consumes None b k = tt
-keeps_consumes (Some a) None k = absurd k
-keeps_consumes (Some a) (Some b) k = sym k
 
 running_none : (s : SourceState) (k : SinkState) → Running s s k k start [] 0
 running_none s k = record {
@@ -141,17 +129,6 @@ running_stop s0 s k0 k k' script held all extra total ended r parts within stops
       wrote = end.1;
       ends = λ remaining left. end.2 remaining;
     }
-
--- less than a line is no line of its own
-no_line_at : (held : List ℕ) (b : Bool) → b ≡ true → (if b then [] else held ∷ []) ≡ []
-no_line_at held true e = refl
-no_line_at held false e = absurd (cc)
-
-no_line : (held : List ℕ) → next_of false held ≡ Unknown → lines_in is_unread held ≡ []
-no_line held u =
-    let more = held_more held u in
-    let short : length held ≤ 256 = more.1 in
-    ap (all_but_last is_unread) (one_piece held more.0) ∙ no_line_at held (is_unread held) (grind (arith, nat_tests))
 
 -- the whole lines were run
 prints_whole : (front written held : List ℕ) (p : Place) → RanFrom first_place front written p → lines_in is_unread held ≡ []
@@ -259,10 +236,6 @@ rest_at ReadRose front written held p k0 k k' status.ReadFault ran wrote size re
 rest_at ReadRose front written held p k0 k k' (status.BadWords _) ran wrote size rest = absurd rest
 rest_at ReadRose front written held p k0 k k' status.TooLong ran wrote size rest = absurd rest
 
-at_end : (o : Option (List ℕ)) (remaining : List ℕ) → IsAtEnd o → IsLeft o remaining → remaining ≡ []
-at_end None remaining a e = e
-at_end (Some xs) remaining a e = e ∙ a
-
 -- the rest of the input was run
 pub running_rest : (s0 s : SourceState) (k0 k k' : SinkState) (script : Session) (held : List ℕ) (total : ℕ) (ended : Status) → Running s0 s k0 k script held total
     → total ≤ limit → IsAtEnd s.left → RunsRest script held k k' ended → RunsScript s0 s k0 k' ended
@@ -279,12 +252,6 @@ running_rest s0 s k0 k k' script held total ended r within is_end rest =
           subst (λ bytes. Ends bytes (r.front ++ held) end.0 (Rose s0.faults s.faults) (Rose k0.faults k'.faults) ended)
           (sym (append-nil (r.front ++ held)) ∙ ap (λ x. (r.front ++ held) ++ x) (sym none)) end.2;
     }
-
-left_after : (s s' : Option (List ℕ)) (bytes taken : List ℕ) → s ≡ Some bytes → Consumes s s' taken
-    → (remaining : List ℕ) × (bytes ≡ taken ++ remaining) × (s' ≡ Some remaining) × IsLeft s' remaining
-left_after None s' bytes taken e took = absurd (cc)
-left_after (Some xs) None bytes taken e took = absurd took
-left_after (Some xs) (Some ys) bytes taken e took = let same : bytes ≡ xs = cc in (ys, same ∙ took, refl, refl)
 
 -- the run as its contract says it
 pub ends_over : (s s' : SourceState) (k k' : SinkState) (ended : Status) (bytes : List ℕ) → RunsScript s s' k k' ended → s.left ≡ Some bytes
@@ -316,10 +283,6 @@ pub exact_over : (s s' : SourceState) (k k' : SinkState) (ended : Status) (bytes
     → ¬ Rose s.faults s'.faults → ¬ Rose k.faults k'.faults → ¬ (ended ≡ status.NoMemory) → EndsAsTold bytes k k' ended
 exact_over s s' k k' ended bytes e r w m =
     exact_at bytes e.taken e.written k k' (Rose s.faults s'.faults) (Rose k.faults k'.faults) ended e.ends e.wrote r w m
-
-some_left : (o : Option (List ℕ)) → (remaining : List ℕ) × IsLeft o remaining
-some_left None = ([], refl)
-some_left (Some xs) = (xs, refl)
 
 no_bad_words : (bytes taken written : List ℕ) (ReadRose WriteRose : Type 0) (ended : Status) (n : ℕ) → Ends bytes taken written ReadRose WriteRose ended
     → ended ≡ status.BadWords n → ⊥

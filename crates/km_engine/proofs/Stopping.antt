@@ -13,9 +13,11 @@ use Rattle.km_model.specs.Pieces.{pieces}
 use Rattle.km_model.specs.Text.{not_a_command_text}
 use Rattle.km_edge.specs.Streams.{SinkState, Wrote}
 use Rattle.km_engine.specs.Session.{Place}
-use Rattle.km_engine.specs.Outcome.{lines_in}
-use Rattle.km_engine.specs.Steps.{KeepsLong, Refuses, EndsRun, EndsAt, StopsAt}
-use Rattle.km_engine.proofs.LineLists.{NoFeed, IsLine, lines_cons, front_of_piece}
+use Rattle.km_forms.specs.Lines.{lines_in}
+use Rattle.km_forms.specs.Lines.{KeepsLong, Refuses}
+use Rattle.km_engine.specs.Steps.{EndsRun, EndsAt, StopsAt}
+use Rattle.km_forms.proofs.LineLists.{NoFeed, IsLine, lines_cons}
+use Rattle.km_forms.proofs.Limits.{long_is_refused, long_line, next_line}
 use Rattle.km_engine.proofs.Running.{prints_cons, prints_refused}
 
 -- a refusal by its number and column
@@ -53,10 +55,6 @@ stops_refused p held c k k' status.ReadFault next stop = absurd stop
 stops_refused p held c k k' status.NoMemory next stop = absurd stop
 stops_refused p held c k k' (status.BadWords _) next stop = absurd stop
 stops_refused p held c k k' status.TooLong next stop = absurd stop
-
--- the next line is the first of these lines
-next_line : (dropped : List ℕ → Bool) (l rest more : List ℕ) → NoFeed l → lines_in dropped ((l ++ 10 ∷ rest) ++ more) ≡ l ∷ lines_in dropped (rest ++ more)
-next_line dropped l rest more no_feed = ap (lines_in dropped) (append_assoc l (10 ∷ rest) more) ∙ lines_cons dropped l (rest ++ more) no_feed
 
 -- a line that was read ends the run
 stops_run : (p : Place) (l rest : List ℕ) (k k' : SinkState) (ended : Status) (x : Line) → NoFeed l → line_of (is_fresh p.script) l ≡ Ok x
@@ -103,37 +101,6 @@ pub stops_line : (p : Place) (l held : List ℕ) (k k' : SinkState) (ended : Sta
 stops_line p l held k k' ended is_line stop =
     subst (λ h. StopsAt p h k k' ended) (sym is_line.parts)
     (stops_read p l (drop (length l + 1) held) k k' ended (line_of (is_fresh p.script) l) is_line.no_feed refl stop)
-
-long_is_refused : (first : Bool) (l : List ℕ) → 256 < length l → line_of first l ≡ Err (record { column = 257 })
-unfolding line_by
-long_is_refused first l h = at_test (nat_lt 256 (length l)) (grind (arith, nat_tests))
-  where
-    at_test : (b : Bool) → b ≡ true
-        → (if b then Err (record { column = 257 })
-        else (if is_comment (pieces l) then Ok line.Blank else (elim (pieces l) as (λ _. Result Line Refused) [ [] ↦ Ok line.Blank | _ ∷ _ ↦ command_line rules first l ])))
-        ≡ Err (record { column = 257 })
-    at_test true e = refl
-    at_test false e = absurd (cc)
-
--- a piece that isn't dropped stays, whether it is the last or not
-kept_piece : (dropped : List ℕ → Bool) (p : List ℕ) (ls : List (List ℕ)) → dropped p ≡ false → (qs : List (List ℕ)) × (all_but_last dropped (p ∷ ls) ≡ p ∷ qs)
-kept_piece dropped p [] e = ([], pick (dropped p) e)
-  where
-    pick : (b : Bool) → b ≡ false → (if b then [] else p ∷ []) ≡ p ∷ []
-    pick true h = absurd (cc)
-    pick false h = refl
-kept_piece dropped p (l ∷ ls) e = (all_but_last dropped (l ∷ ls), refl)
-
--- 257 bytes without a line feed begin a line that is too long, whatever comes behind them
-long_line : (dropped : List ℕ → Bool) (held more : List ℕ) → KeepsLong dropped → NoFeed (take 257 held) → 257 ≤ length held
-    → (l : List ℕ) × (ls : List (List ℕ)) × (lines_in dropped (held ++ more) ≡ l ∷ ls) × (256 < length l)
-long_line dropped held more keep no_feed size =
-    let front = take 257 held in
-    let piece = front_of_piece front (drop 257 held ++ more) no_feed in
-    let whole : held ++ more ≡ front ++ (drop 257 held ++ more) = ap (λ h. h ++ more) (sym (take-append-drop 257 held)) ∙ append_assoc front (drop 257 held) more in
-    let long : 256 < length (front ++ piece.0) = omega (arith, length-append front piece.0, length-take 257 held, size) in
-    let kept = kept_piece dropped (front ++ piece.0) piece.1 (keep (front ++ piece.0) long) in
-    (front ++ piece.0, kept.0, ap (lines_in dropped) whole ∙ ap (all_but_last dropped) piece.2 ∙ kept.1, long)
 
 -- too long a line ends the run
 pub stops_long : (p : Place) (held : List ℕ) (k k' : SinkState) (ended : Status) → NoFeed (take 257 held) → 257 ≤ length held

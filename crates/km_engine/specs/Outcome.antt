@@ -7,18 +7,7 @@ use Rattle.km_model.specs.declared.status.Status.TheVariants as status
 use Rattle.km_model.specs.Grammar.{rules, line_of}
 use Rattle.km_model.specs.Output.{Script, Fresh, Prints, IsOut, between_line_feeds, all_but_last, is_empty, is_unread, limit, lines_of, status_from, status_of}
 use Rattle.km_edge.specs.Streams.{SourceState, SinkState, Rose, Wrote}
-
--- the lines of some bytes, without the piece behind the last line feed where that is dropped
-abbrev pub lines_in : (List ℕ → Bool) → List ℕ → List (List ℕ)
-lines_in dropped bytes = all_but_last dropped (between_line_feeds bytes)
-
--- the lines that are known to be lines whatever comes behind these bytes: the whole ones, and one that is too long
-abbrev pub whole_lines : List ℕ → List (List ℕ)
-whole_lines bytes = lines_in is_unread bytes
-
--- a list begins with these
-abbrev pub IsPrefix : List ℕ → List ℕ → Type 0
-IsPrefix front whole = (rest : List ℕ) × (whole ≡ front ++ rest)
+use Rattle.km_forms.specs.Lines.{lines_in, whole_lines, IsPrefix}
 
 -- these bytes lead to a text by their whole lines
 abbrev pub IsOutOfWhole : List ℕ → List ℕ → Type 0

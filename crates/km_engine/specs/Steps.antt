@@ -16,7 +16,8 @@ use Rattle.km_edge.specs.Streams.{SourceState, SinkState, Rose, Wrote, StoppedAt
 use Rattle.km_machine.specs.declared.machine.Machine.{Machine}
 use Rattle.km_machine.specs.Lines.{IsFew, is_memory}
 use Rattle.km_engine.specs.Session.{Session, Place, HasLed, StandsAt, HasRoomFor}
-use Rattle.km_engine.specs.Outcome.{lines_in, Ends}
+use Rattle.km_engine.specs.Outcome.{Ends}
+use Rattle.km_forms.specs.Lines.{lines_in, KeepsLong, Refuses, IsLeft}
 
 -- a first command is `memory` with a number of words that a memory can have; a later one is another, and its number is in its range
 abbrev pub IsFit : Bool → Command → Type 0
@@ -51,12 +52,6 @@ pub record RanOn (machine : Option Machine) (m : Script) (l : Line) (k k' : Sink
 abbrev pub Runs : Option Machine → Option Machine → Line → SinkState → SinkState → Result (Unit {0}) Status → Type 0
 Runs old new l k k' result = (m : Script) → HasLed old m → MatchResult result (λ _. RanOn new m l k k') (EndsRun m l k k')
 
--- a refusal is written, or stops at a fault
-abbrev pub Refuses : ℕ → ℕ → SinkState → SinkState → Status → Type 0
-Refuses n c k k' (status.NotACommand m d) = (m ≡ n) × (d ≡ c) × Wrote k k' (not_a_command_text n c)
-Refuses n c k k' status.WriteFault = (m : ℕ) × StoppedAt k k' (not_a_command_text n c) m
-Refuses n c k k' _ = ⊥
-
 -- how a line ends a run, as it was read
 abbrev pub EndsAt : Place → Result Line Refused → SinkState → SinkState → Status → Type 0
 EndsAt p (Err e) k k' status = Refuses p.number e.column k k' status
@@ -73,10 +68,6 @@ RunsLine s s' bytes k k' result =
 -- what was run took these bytes of the room
 abbrev pub TakesRoom : Session → Session → ℕ → ℕ → Type 0
 TakesRoom s s' before after = (more : ℕ) → HasRoomFor s.machine (before + more) → HasRoomFor s'.machine (after + more)
-
--- a test that drops no line that is too long
-abbrev pub KeepsLong : (List ℕ → Bool) → Type 0
-KeepsLong dropped = (l : List ℕ) → 256 < length l → dropped l ≡ false
 
 -- the lines at the front were run, and the run stands behind them, whatever comes there
 pub record RanFrom (p : Place) (front written : List ℕ) (q : Place) : Type 0 where
@@ -167,11 +158,6 @@ EndsRest p rest k k' _ = ⊥
 -- the rest of the input is run
 abbrev pub RunsRest : Session → List ℕ → SinkState → SinkState → Status → Type 0
 RunsRest s rest k k' ended = (p : Place) → StandsAt s p → EndsRest p rest k k' ended
-
--- these bytes are left, if that is told; if not, let there be none
-abbrev pub IsLeft : Option (List ℕ) → List ℕ → Type 0
-IsLeft None remaining = remaining ≡ []
-IsLeft (Some bytes) remaining = remaining ≡ bytes
 
 -- a run over what a source gives
 pub record RunsScript (s s' : SourceState) (k k' : SinkState) (ended : Status) : Type 0 where

@@ -5,8 +5,9 @@ ghost use Rattle.km_edge.specs.Lines.{Unknown, next_of};
 ghost use Rattle.km_engine.specs.Session.{HasRoomFor};
 ghost use Rattle.km_engine.specs.Steps.{RunsLines, RunsRest, TakesRoom};
 
-use crate::script::{Script, refuse};
+use crate::script::Script;
 use km_edge::{Cut, Lines, Sink};
+use km_forms::refuse;
 use km_model::Status;
 use std::alloc::Global;
 

@@ -4,13 +4,13 @@ ghost use Rattle.std.specs.Prelude.{◌≡◌, [], true, is_none, length, IfOk, 
 ghost use Rattle.km_model.specs.declared.lines.Command.TheVariants.{Memory};
 ghost use Rattle.km_machine.specs.Machines.{For};
 ghost use Rattle.km_engine.specs.Session.{HasRoomToRun, SpendsOn};
-ghost use Rattle.km_engine.specs.Steps.{IsFit, IsFitLine, IsMemory, Refuses, Runs};
+ghost use Rattle.km_engine.specs.Steps.{IsFit, IsFitLine, IsMemory, Runs};
 
-use km_edge::{Sink, write_all};
+use km_edge::Sink;
+use km_forms::refuse;
 use km_machine::Machine;
 use km_model::{Command, Line, Status};
 use km_script::read_line;
-use km_text::Text;
 use std::alloc::Global;
 use std::marker::Model;
 
@@ -118,17 +118,5 @@ fn boot(alloc: Global, command: Command) -> Result<Machine, Status>
     match Machine::new(alloc, words) {
         Ok(machine) => Ok(machine),
         Err(_) => Err(Status::NoMemory),
-    }
-}
-
-/// Writes the text of a line that is no command, and gives the status that it means.
-pub fn refuse<K: Sink>(line: u64, column: u32, sink: &mut K) -> Status
-    ensures { Refuses line column (K.state sink.old) (K.state sink.new) result }
-{
-    let mut text = Text::new();
-    km_text::not_a_command(line, column, &mut text);
-    match write_all(sink, text.bytes()) {
-        Ok(()) => Status::NotACommand { line, column },
-        Err(_) => Status::WriteFault,
     }
 }

@@ -1,4 +1,4 @@
-//! Pieces, faults and words.
+//! Pieces and faults.
 
 use crate::notation::{report_of, script_of};
 use crate::run::{calls, run_in_pieces, run_whole, text_of};
@@ -117,22 +117,6 @@ fn a_failed_write_ends_the_run(rt: HostRuntime) -> Result<(), Fail> {
         Status::WriteFault
     );
     assert_eq!(rt; sink.bytes().len(), 0);
-    Ok(())
-}
-
-#[test]
-fn a_word_is_refused_and_nothing_is_read(rt: HostRuntime) -> Result<(), Fail> {
-    let alloc = rt.alloc();
-    for word in ["foo", "check", "bench", "--help", ""] {
-        let mut words = Vec::new(alloc);
-        words.push(String::from_str(alloc, word)?)?;
-        let mut source = MemSource::new(Vec::from_slice(alloc, SCRIPT)?, 16, calls(alloc, 1)?);
-        let mut sink = MemSink::new(alloc, 0, 1, Vec::new(alloc))?;
-        assert_eq!(rt;
-            run(alloc, words.as_slice(), &mut source, &mut sink),
-            Status::BadWords { word: 1 }
-        );
-    }
     Ok(())
 }
 

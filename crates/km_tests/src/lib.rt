@@ -8,6 +8,8 @@ mod faults;
 #[cfg(test)]
 mod file;
 #[cfg(test)]
+mod forms;
+#[cfg(test)]
 mod hosts;
 #[cfg(test)]
 mod leaks;

@@ -1,6 +1,6 @@
 use Rattle.std.proofs.Common.{◌+◌, ◌∙◌, ℕ, length, ap, subst, arith, length-drop}
-use Rattle.km_engine.specs.Steps.{Refuses}
-use Rattle.km_engine.proofs.LineLists.{held_line, held_long, feed_within}
+use Rattle.km_forms.specs.Lines.{Refuses}
+use Rattle.km_forms.proofs.LineLists.{held_line, held_long, feed_within}
 use Rattle.km_engine.proofs.Rooms.{less_room, takes_more}
 use Rattle.km_engine.proofs.Stopping.{stops_line, stops_long}
 use Rattle.km_engine.proofs.Buffers.{all_none, all_more, all_stop}

@@ -1,14 +1,8 @@
 use Rattle.std.proofs.Common.{◌≡◌, ◌<◌, ◌-◌, ℕ, List, [], ◌++◌, length, take, drop, ap, sym, ◌∙◌, arith, length-drop}
 use Rattle.std.proofs.lemmas.List.{append-nil, take-append-drop}
+use Rattle.km_forms.proofs.Sources.{last_byte}
 use Rattle.km_engine.proofs.Runs.{running_start, running_numbered, running_space, running_on, running_more, running_stop, running_rest, running_fault, running_long}
 use Rattle.km_engine.proofs.program.run_script.Goals as goal
-
--- the last byte is taken away
-last_byte : (lines held : List ℕ) → held ≡ take (length lines - 1) lines → 0 < length lines → (lines ≡ held ++ drop (length lines - 1) lines) × (length (drop (length lines - 1) lines) ≡ 1)
-last_byte lines held e some = (
-  sym (take-append-drop (length lines - 1) lines) ∙ ap (λ x. x ++ drop (length lines - 1) lines) (sym e),
-  omega (arith, length-drop (length lines - 1) lines, some),
-)
 
 pub loop-taken-init : goal.loop-taken-init
 loop-taken-init g c = record { running = running_start _ _ _ _ c.new-script.ensures c.new-lines.ensures; within = omega arith; last = λ more. absurd (omega (arith, more)) }

@@ -4,7 +4,8 @@ use Rattle.km_model.specs.declared.lines.NotACommand.{NotACommand as Refused}
 use Rattle.km_model.specs.Grammar.{line_of}
 use Rattle.km_model.specs.Output.{is_fresh}
 use Rattle.km_engine.specs.Session.{HasLed, HasRoomToRun, SpendsOn}
-use Rattle.km_engine.specs.Steps.{EndsAt, IsFitLine, Refuses}
+use Rattle.km_forms.specs.Lines.{Refuses}
+use Rattle.km_engine.specs.Steps.{EndsAt, IsFitLine}
 use Rattle.km_engine.proofs.Fit.{read_is_fit}
 use Rattle.km_engine.proofs.Lines.{fresh_as}
 use Rattle.km_engine.proofs.Rooms.{less_room, room_to_run, line_takes}
