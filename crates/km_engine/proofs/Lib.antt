@@ -1,6 +1,5 @@
 pub mod Fit
 pub mod Histories
-pub mod Timely
 pub mod Totals
 pub mod Running
 pub mod Rooms

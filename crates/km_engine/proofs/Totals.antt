@@ -28,7 +28,7 @@ use Rattle.km_model.proofs.FollowLaws.{steps_follow}
 use Rattle.km_engine.specs.Steps.{IsFitLine}
 use Rattle.km_engine.proofs.Fit.{read_is_fit}
 use Rattle.km_engine.proofs.Histories.{IsSound, line_sound}
-use Rattle.km_engine.proofs.Timely.{scan_paced}
+use Rattle.km_machine.proofs.Timely.{scan_paced}
 
 -- a step that loads leaves less of the scan; each other one leaves no scan running
 abbrev Falls : History → Answer → Type 0

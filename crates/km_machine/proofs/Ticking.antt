@@ -13,6 +13,7 @@ use Rattle.km_core.specs.declared.settings.Settings.{Settings}
 use Rattle.km_machine.specs.Machines.{For}
 use Rattle.km_machine.specs.Scans.{GoesOn, ReachesOver, Scanned, ScansUntil, shown}
 use Rattle.km_machine.proofs.Going.{goes_more, goes_none}
+use Rattle.km_laws.proofs.Since.{follows_answered}
 use Rattle.km_machine.proofs.Timely.{scan_paced}
 
 -- the moment of a core
@@ -68,7 +69,7 @@ pub pacing_more : (core next : Seen) (memory after : List ℕ) (words target : �
 pacing_more core next memory after words target h made k k' k'' written written' due last same s is_due scanned writes =
     let scan = subst (λ w. Scanned next after w s.behind (happens w (history_at w s.behind due) AutoBegin) last) same (scanned s.behind s.stands) in
     let due_then = due_is target (world_after s.behind).due due is_due in
-    let pace = scan_paced words s.behind scan.behind due (subst (λ w. Follows w s.behind) same s.stands.stands.follows) due_then scan.makes in
+    let pace = scan_paced words s.behind scan.behind due (follows_answered words s.behind (subst (λ w. Follows w s.behind) same s.stands.stands.follows)) due_then scan.makes in
     let now = pace.now in let since = s.since in
     record {
       behind = scan.behind;

@@ -7,7 +7,8 @@ use Rattle.km_base.specs.declared.acts.FileCmd.TheVariants.{Off, ScanOff, ScanOn
 use Rattle.km_base.specs.declared.acts.Answer.{Answer}
 use Rattle.km_base.specs.declared.acts.Answer.TheVariants.{Done, Skipped, Refused}
 use Rattle.km_base.specs.declared.acts.Refusal.TheVariants.{Disabled}
-use Rattle.km_model.specs.History.{History, value_of}
+use Rattle.km_laws.proofs.Since.{IsAnswered}
+use Rattle.km_model.specs.History.{History}
 use Rattle.km_model.specs.Blocks.{Block, block_with, without_block, changed_where, painted_grey, is_among}
 use Rattle.km_model.specs.Placement.{pages_for, lowest_run, lowest_slab, lowest_slot, kmalloc_span, kmalloc_use, slot_of_area, head_with, page_start, HeadBlock, AreaRun, BootRun, SectionRun}
 use Rattle.km_model.specs.Tasks.{Task, task_named}
@@ -16,7 +17,7 @@ use Rattle.km_model.specs.Past.{is_refused, running_scan}
 use Rattle.km_model.specs.Changes.{world_after_event, world_after_act, world_after_word, world_after_exit, with_vmalloc, world_after_vfree, world_without, world_without_part}
 use Rattle.km_model.specs.Answers.{answer, unless}
 use Rattle.km_model.specs.Verdict.{listing_ids}
-use Rattle.km_model.specs.Follows.{Follows, happens, past_of, told_answer}
+use Rattle.km_model.specs.Follows.{happens, past_of, told_answer}
 use Rattle.km_model.specs.Expansion.{Finishes, ScansIfBegun, history_at, newest_is_done, newest_is_loaded, steps, world_after}
 
 -- automatic scans lie a second apart at least, and are due only while `off` was not written
@@ -117,10 +118,10 @@ event_timely words h act value t = by_act act
     by_act act = accepted act t
 
 -- at each moment of a history
-pub timely : (words : ℕ) (h : History) → Follows words h → Timely (world_after h)
+pub timely : (words : ℕ) (h : History) → IsAnswered words h → Timely (world_after h)
 timely words [] follows = record { apart = omega arith; on = λ m e. refl }
 timely words (x ∷ h) follows =
-    subst (λ a. Timely (world_after_event (world_after h) (listing_ids (past_of h)) x.act a)) (sym follows.0) (event_timely words h x.act (value_of x.answer) (timely words h follows.2))
+    subst (λ a. Timely (world_after_event (world_after h) (listing_ids (past_of h)) x.act a)) (sym follows.0.1) (event_timely words h x.act follows.0.0 (timely words h follows.1))
 
 -- a scanner's step changes nothing but the scan
 same_if : (q : Bool) (w : World) → (if q then w else w) ≡ w
@@ -167,7 +168,7 @@ pub record Paced (w v : World) (due : ℕ) : Type 0 where
   pub now : v.now ≡ w.now + (due - w.now)
   pub next : (m : ℕ) → v.due ≡ Some m → v.now + 1000 ≤ m
 
-pub scan_paced : (words : ℕ) (h behind : History) (due : ℕ) → Follows words h → (world_after h).due ≡ Some due → ScansIfBegun words (happens words (history_at words h due) AutoBegin) behind
+pub scan_paced : (words : ℕ) (h behind : History) (due : ℕ) → IsAnswered words h → (world_after h).due ≡ Some due → ScansIfBegun words (happens words (history_at words h due) AutoBegin) behind
     → Paced (world_after h) (world_after behind) due
 scan_paced words h behind due follows is scans =
     let w = world_after h in
