@@ -19,7 +19,7 @@ use Rattle.km_left.specs.Laws.{LeftInIsBounded, SomeIsLeft}
 use Rattle.km_left.proofs.Runs.{run_most}
 use Rattle.km_left.proofs.Ways.{phase_is}
 
-blocks_most : (c : Scanning) (ts : List Tracked) → 4 * (total (grey_left c) ts + total (sum_left c.cursor) ts) ≤ total (λ (b : Block). b.size) (blocks_in ts) + 8 * length ts
+pub blocks_most : (c : Scanning) (ts : List Tracked) → 4 * (total (grey_left c) ts + total (sum_left c.cursor) ts) ≤ total (λ (b : Block). b.size) (blocks_in ts) + 8 * length ts
 blocks_most c [] = omega arith
 blocks_most c (t ∷ ts) =
     let rest = blocks_most c ts in
@@ -27,7 +27,7 @@ blocks_most c (t ∷ ts) =
     let sums : sum_left c.cursor t ≤ suc (t.block.size / 8) = run_most (is_ahead 3 t.block.id c.cursor) (is_at 3 t.block.id c.cursor) c.cursor t.block.start (t.block.size / 8) in
     omega (arith, rest, grey, sums)
 
-stacks_most : (c : Scanning) (tasks : List Task) → 4 * total (stack_left c.cursor) tasks ≤ total (λ (t : Task). 4096) tasks
+pub stacks_most : (c : Scanning) (tasks : List Task) → 4 * total (stack_left c.cursor) tasks ≤ total (λ (t : Task). 4096) tasks
 stacks_most c [] = omega arith
 stacks_most c (t ∷ ts) =
     let rest = stacks_most c ts in

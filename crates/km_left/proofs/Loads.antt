@@ -60,7 +60,7 @@ white_by_less (AtLeast n) count true hit w = absurd (let lt = ltb-true n n w in 
 white_by_less (AtLeast n) count false true w = lt-ltb count n (let lt = ltb-true (count + 1) n w in omega (arith, lt))
 white_by_less (AtLeast n) count false false w = w
 
-white_told : (l : ScanLoad) (sum : ℕ) (t : Tracked) → is_white_now (told l sum t) ≡ true → is_white_now t ≡ true
+pub white_told : (l : ScanLoad) (sum : ℕ) (t : Tracked) → is_white_now (told l sum t) ≡ true → is_white_now t ≡ true
 white_told l sum t w = white_by_less t.block.minimum t.count (option_is l.changed t.block.id) (option_is l.hit t.block.id) w
 
 -- a load takes entries out of the queue, and puts in what it makes ripe
@@ -68,14 +68,14 @@ in_if : (q : Bool) (x : ℕ) (xs ys zs : List ℕ) → (In x xs → In x zs) →
 in_if true x xs ys zs f g i = f i
 in_if false x xs ys zs f g i = g i
 
-in_rest : (c : Scanning) (place : Place) (x : ℕ) → In x (queue_at c place) → In x c.queue
+pub in_rest : (c : Scanning) (place : Place) (x : ℕ) → In x (queue_at c place) → In x c.queue
 in_rest c place x i =
     in_if (place.phase == 1) x c.queue _ c.queue (λ j. j)
     (in_if (place.phase == 3) x (if nat_le (phase_at c.cursor) 2 then [] else c.queue) _ c.queue
     (in_if (nat_le (phase_at c.cursor) 2) x [] c.queue c.queue (λ j. absurd j) (λ j. j))
     (in_if (is_at place.phase place.holder c.cursor) x c.queue (behind place.holder c.queue) c.queue (λ j. j) (in_behind place.holder x c.queue))) i
 
-in_with_last : (ns : List ℕ) (o : Option ℕ) (x : ℕ) → In x (with_last ns o) → In x ns ⊎ (o ≡ Some x)
+pub in_with_last : (ns : List ℕ) (o : Option ℕ) (x : ℕ) → In x (with_last ns o) → In x ns ⊎ (o ≡ Some x)
 in_with_last ns None x i = inl i
 in_with_last ns (Some n) x i = elim (in_push_cases ns x n i) [ inl j ↦ inl j | inr same ↦ inr (ap Some (sym same)) ]
 
@@ -110,7 +110,7 @@ comes_grey c place t d grey same (inl k) = inl (or_right (is_white_now t) (is_am
 comes_grey c place t d grey same (inr k) =
     inr (either_at t.block.id place (λ p. is_at p t.block.id c.cursor) grey (subst (λ n. is_at place.phase n c.cursor ≡ true) same k.0), k.1, k.2)
 
-total_of_map : {X Y : Type 0} (f : Y → ℕ) (g : X → Y) (xs : List X) → total f (map g xs) ≡ total (λ x. f (g x)) xs
+pub total_of_map : {X Y : Type 0} (f : Y → ℕ) (g : X → Y) (xs : List X) → total f (map g xs) ≡ total (λ x. f (g x)) xs
 total_of_map f g [] = refl
 total_of_map f g (x ∷ xs) = omega (arith, total_of_map f g xs)
 

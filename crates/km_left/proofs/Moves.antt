@@ -42,11 +42,11 @@ run_fewer false held false true c d start words f g =
     let k = g refl in
     subst (λ q. run_left false true d start words ≤ run_left false q c start words) (sym k.0) (let same = k.1 in omega (arith, same))
 
-phase_fewer : (q number start words : ℕ) (c d : Cursor) → Passes c d → phase_left q d number start words ≤ phase_left q c number start words
+pub phase_fewer : (q number start words : ℕ) (c d : Cursor) → Passes c d → phase_left q d number start words ≤ phase_left q c number start words
 phase_fewer q number start words c d p =
     run_fewer (is_ahead q number c) (is_at q number c) (is_ahead q number d) (is_at q number d) c d start words (p.ahead q number) (p.held q number)
 
-grey_fewer : (c d : Scanning) (t : Tracked) → Passes c.cursor d.cursor → (In t.block.id d.queue → In t.block.id c.queue) → grey_left d t ≤ grey_left c t
+pub grey_fewer : (c d : Scanning) (t : Tracked) → Passes c.cursor d.cursor → (In t.block.id d.queue → In t.block.id c.queue) → grey_left d t ≤ grey_left c t
 grey_fewer c d t p f =
     run_fewer (is_white_now t || is_among t.block.id c.queue) (is_at 2 t.block.id c.cursor || is_at 4 t.block.id c.cursor)
     (is_white_now t || is_among t.block.id d.queue) (is_at 2 t.block.id d.cursor || is_at 4 t.block.id d.cursor) c.cursor d.cursor t.block.start (t.block.size / 8)
@@ -68,7 +68,7 @@ greys_fewer c d ts p f = total_le_in (grey_left d) (grey_left c) ts (λ t i. gre
 sums_fewer : (c d : Cursor) (ts : List Tracked) → Passes c d → total (sum_left d) ts ≤ total (sum_left c) ts
 sums_fewer c d ts p = total_le_in (sum_left d) (sum_left c) ts (λ t i. phase_fewer 3 t.block.id t.block.start (t.block.size / 8) c d p)
 
-stacks_fewer : (c d : Cursor) (tasks : List Task) → Passes c d → total (stack_left d) tasks ≤ total (stack_left c) tasks
+pub stacks_fewer : (c d : Cursor) (tasks : List Task) → Passes c d → total (stack_left d) tasks ≤ total (stack_left c) tasks
 stacks_fewer c d tasks p = total_le_in (stack_left d) (stack_left c) tasks (λ t i. phase_fewer 1 t.number t.stack 512 c d p)
 
 -- what is left there

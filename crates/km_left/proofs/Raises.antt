@@ -83,7 +83,7 @@ mapped c change ts tasks f g =
     omega (arith, grey, sums)
 
 -- the blocks that begin at an address are gone
-moved_passes : (gone : ℕ → Bool) (c : Cursor) → Passes c (moved gone c)
+pub moved_passes : (gone : ℕ → Bool) (c : Cursor) → Passes c (moved gone c)
 moved_passes gone Start = stays Start
 moved_passes gone (Behind phase id) = stays (Behind phase id)
 moved_passes gone (Last place) =

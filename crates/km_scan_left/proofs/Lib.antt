@@ -1,0 +1,12 @@
+pub mod Once
+pub mod Hits
+pub mod Dues
+pub mod Reaches
+pub mod GoesOn
+pub mod Places
+pub mod Without
+pub mod DueAt
+pub mod Steps
+pub mod Bounded
+pub mod Fewer
+pub mod Changes
