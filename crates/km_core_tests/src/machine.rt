@@ -31,6 +31,8 @@ pub enum Play {
     Begin,
     /// So many steps load a word each.
     Load(u32),
+    /// The next step loads the word at an address, which has this value.
+    Word(u64, u64),
     /// After so many more loads the scan ends, with so many new blocks.
     End(u32, u32),
     /// The first listed block begins there.
@@ -108,6 +110,9 @@ impl Machine {
             }
             Play::Begin => self.begin(rt),
             Play::Load(loads) => self.load(rt, loads),
+            Play::Word(addr, value) => {
+                assert_eq!(rt; self.act(rt, Act::Step), Answer::Loaded { addr, value });
+            }
             Play::End(loads, new) => self.end(rt, loads, new),
             Play::List(start) => assert_eq!(rt; self.listed(), start),
         }

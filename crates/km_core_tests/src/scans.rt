@@ -2,7 +2,7 @@
 //! slots and the words of what is held; then it sums what is white. A sum that is the first of its block counts as
 //! changed, so that the block is loaded once more and isn't new before the next scan.
 
-use crate::machine::Play::{Begin, Do, End, List, Load, Scan, Set};
+use crate::machine::Play::{Begin, Do, End, List, Load, Scan, Set, Word};
 use crate::machine::{B, play_all};
 use km_base::Act::{
     BootMem, File, FreePart, Kfree, Kmalloc, Read, Section, TaskExit, TaskStart, Tick, VmTake,
@@ -56,6 +56,41 @@ fn the_last_byte_holds_under_any_tag_and_the_end_does_not(rt: HostRuntime) -> Re
         Scan(512 + 1 + 8 + 8, 0),
         Scan(512 + 1 + 8, 1),
         List(Some(B + 0x2000)),
+    ];
+    play_all(&rt, plays.as_slice())
+}
+
+#[test]
+fn words_are_loaded_in_order(rt: HostRuntime) -> Result<(), Fail> {
+    let section = Section {
+        name: name(&rt),
+        words: 2,
+    };
+    let (roots, held, white) = (B + 0x1000, B + 0x2000, B + 0x2010);
+    let plays = [
+        Do(section, Done),
+        Do(Kmalloc(16), At(held)),
+        Do(Kmalloc(16), At(white)),
+        Set(roots, held + 15),
+        Set(held + 8, held),
+        Set(white, white),
+        Begin,
+        Load(512),
+        Word(roots, held + 15),
+        Word(roots + 8, 0),
+        Word(held, 0),
+        Word(held + 8, held),
+        // What is white is summed, and scanned once its sum is found changed.
+        Word(white, white),
+        Word(white + 8, 0),
+        Word(white, white),
+        Word(white + 8, 0),
+        End(0, 0),
+        Begin,
+        Load(512 + 2 + 2),
+        Word(white, white),
+        Word(white + 8, 0),
+        End(0, 0),
     ];
     play_all(&rt, plays.as_slice())
 }

@@ -5,6 +5,3 @@ pub mod parts;
 mod rests;
 
 pub use parts::{PartFault, Pieces, check_part, split};
-
-#[cfg(test)]
-mod tests;

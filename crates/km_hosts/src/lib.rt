@@ -3,7 +3,5 @@
 
 pub mod hosts;
 mod refusals;
-#[cfg(test)]
-mod tests;
 
 pub use hosts::Hosts;

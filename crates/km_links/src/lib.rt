@@ -8,6 +8,3 @@ mod chain;
 pub mod links;
 
 pub use links::{Links, Which};
-
-#[cfg(test)]
-mod tests;

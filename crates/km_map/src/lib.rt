@@ -8,6 +8,3 @@ pub mod sorted;
 pub use entries::Entry;
 pub use object_map::ObjectMap;
 pub use sorted::SortedMap;
-
-#[cfg(test)]
-mod tests;

@@ -3,7 +3,5 @@
 
 pub mod bits;
 pub mod marks;
-#[cfg(test)]
-mod tests;
 
 pub use marks::Marks;

@@ -5,8 +5,6 @@ pub mod errors;
 pub mod laws;
 pub mod pages;
 pub mod runs;
-#[cfg(test)]
-mod tests;
 
 pub use errors::{NoRoom, NotAllocated};
 pub use pages::Pages;

@@ -6,6 +6,3 @@ pub mod record;
 
 pub use kinds::{AreaFault, Colour, Minimum, Paint, RecId};
 pub use record::Record;
-
-#[cfg(test)]
-mod tests;

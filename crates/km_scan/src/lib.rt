@@ -12,6 +12,3 @@ pub mod sweep;
 
 pub use places::{At, Cursor, Pass};
 pub use scanner::{Scanner, Want};
-
-#[cfg(test)]
-mod tests;

@@ -16,6 +16,3 @@ mod words;
 pub use file::file_command;
 pub use km_model::{Base, Command, Line, NotACommand, Operand, RegName};
 pub use line::read_line;
-
-#[cfg(test)]
-mod tests;

@@ -9,8 +9,6 @@ pub mod laws;
 pub mod slab;
 mod small;
 mod table;
-#[cfg(test)]
-mod tests;
 
 pub use errors::SlabFault;
 pub use slab::Slab;

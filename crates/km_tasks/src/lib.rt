@@ -4,8 +4,6 @@
 pub mod errors;
 pub mod laws;
 pub mod tasks;
-#[cfg(test)]
-mod tests;
 
 pub use errors::{NoTask, TaskFault};
 pub use tasks::Tasks;

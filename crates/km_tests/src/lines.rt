@@ -4,22 +4,59 @@ use crate::run::assert_report;
 use km_engine::Status;
 use std::test::Fail;
 
-#[test]
-fn first_scripts_give_their_reports(rt: HostRuntime) -> Result<(), Fail> {
-    assert_report(&rt, b"", Status::Ok, b"")?;
-    assert_report(&rt, b"memory 4096\n", Status::Ok, b"")?;
-    assert_report(
-        &rt,
+const SCRIPTS_END: [(&[u8], Status, &[u8]); 10] = [
+    (b"", Status::Ok, b""),
+    (b"memory 4096\n", Status::Ok, b""),
+    (
         b"memory 4096\nsection data 8\nkmalloc 4096\nwrite scan\nread\n",
         Status::Ok,
         b"kmalloc 0xffff888000002000\n",
-    )?;
-    assert_report(
-        &rt,
+    ),
+    (
         b"memory 512\nsection data 1\nkmalloc 4096\n",
         Status::Ok,
         b"refused: no room\nrefused: no room\n",
-    )
+    ),
+    // The first command is `memory`.
+    (
+        b"read\n",
+        Status::NotACommand { line: 1, column: 1 },
+        b"not a command: line 1, column 1\n",
+    ),
+    (
+        b"\n  read x\n",
+        Status::NotACommand { line: 2, column: 3 },
+        b"not a command: line 2, column 3\n",
+    ),
+    (
+        b"memory 409",
+        Status::NotACommand { line: 1, column: 8 },
+        b"not a command: line 1, column 8\n",
+    ),
+    (
+        b"memory 4194816\n",
+        Status::NotACommand { line: 1, column: 8 },
+        b"not a command: line 1, column 8\n",
+    ),
+    (
+        b"memory 4194304\nkmalloc 4096\n",
+        Status::Ok,
+        b"kmalloc 0xffff888000001000\n",
+    ),
+    // A refused line is the last that runs.
+    (
+        b"memory 1024\nkmalloc 8\nkmaloc 8\nkmalloc 8\n",
+        Status::NotACommand { line: 3, column: 1 },
+        b"kmalloc 0xffff888000001000\nnot a command: line 3, column 1\n",
+    ),
+];
+
+#[test]
+fn scripts_end_as_their_lines_say(rt: HostRuntime) -> Result<(), Fail> {
+    for (script, status, text) in SCRIPTS_END {
+        assert_report(&rt, script, status, text)?;
+    }
+    Ok(())
 }
 
 #[test]
@@ -105,40 +142,6 @@ fn lines_of_other_forms_are_accepted(rt: HostRuntime) -> Result<(), Fail> {
     Ok(())
 }
 
-#[test]
-fn the_first_command_is_memory(rt: HostRuntime) -> Result<(), Fail> {
-    assert_report(
-        &rt,
-        b"read\n",
-        Status::NotACommand { line: 1, column: 1 },
-        b"not a command: line 1, column 1\n",
-    )?;
-    assert_report(
-        &rt,
-        b"\n  read x\n",
-        Status::NotACommand { line: 2, column: 3 },
-        b"not a command: line 2, column 3\n",
-    )?;
-    assert_report(
-        &rt,
-        b"memory 409",
-        Status::NotACommand { line: 1, column: 8 },
-        b"not a command: line 1, column 8\n",
-    )?;
-    assert_report(
-        &rt,
-        b"memory 4194816\n",
-        Status::NotACommand { line: 1, column: 8 },
-        b"not a command: line 1, column 8\n",
-    )?;
-    assert_report(
-        &rt,
-        b"memory 4194304\nkmalloc 4096\n",
-        Status::Ok,
-        b"kmalloc 0xffff888000001000\n",
-    )
-}
-
 /// A script that is cut below.
 const CUT: &[u8] = b"memory 4096\nkmalloc 64";
 
@@ -172,16 +175,6 @@ fn a_script_may_end_at_any_byte(rt: HostRuntime) -> Result<(), Fail> {
         assert_report(&rt, script, Status::Ok, text)?;
     }
     Ok(())
-}
-
-#[test]
-fn a_refused_line_ends_the_script(rt: HostRuntime) -> Result<(), Fail> {
-    assert_report(
-        &rt,
-        b"memory 1024\nkmalloc 8\nkmaloc 8\nkmalloc 8\n",
-        Status::NotACommand { line: 3, column: 1 },
-        b"kmalloc 0xffff888000001000\nnot a command: line 3, column 1\n",
-    )
 }
 
 #[test]

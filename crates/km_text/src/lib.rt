@@ -12,6 +12,3 @@ pub use dump::dump_line;
 pub use listing::{entry_age, entry_head, entry_hex, hex_row};
 pub use summary::{bench_number, bench_result, commands};
 pub use text::Text;
-
-#[cfg(test)]
-mod tests;

@@ -11,6 +11,3 @@ pub mod track;
 
 pub use faults::{AreaRefusal, NoObject, Overlap};
 pub use track::Track;
-
-#[cfg(test)]
-mod tests;

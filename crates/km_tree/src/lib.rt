@@ -8,6 +8,3 @@ mod shape;
 pub mod tree;
 
 pub use tree::TreeMap;
-
-#[cfg(test)]
-mod tests;

@@ -6,6 +6,3 @@ pub mod verdict;
 
 pub use listing::{clear, dump, first_listed, next_listed};
 pub use verdict::flag;
-
-#[cfg(test)]
-mod tests;

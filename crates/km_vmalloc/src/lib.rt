@@ -5,8 +5,6 @@ pub mod areas;
 pub mod errors;
 pub mod laws;
 mod parts;
-#[cfg(test)]
-mod tests;
 pub mod vmalloc;
 
 pub use areas::VmArea;
