@@ -1,7 +1,8 @@
-use Rattle.std.proofs.Common.{◌≡◌, ℕ, suc, ◌+◌, Bool, true, false, List, [], ◌∷◌, length, take, drop, refl, ap, sym, ◌∙◌, arith, if◌then◌else◌, not, add-zero}
+use Rattle.std.proofs.Common.{◌≡◌, ℕ, suc, ◌+◌, Bool, true, false, List, [], ◌∷◌, length, take, drop, Err, refl, ap, sym, ◌∙◌, arith, if◌then◌else◌, not, add-zero}
 use Rattle.std.specs.List.{prefix_len, position_or_len}
 use Rattle.std.proofs.Math.Seq.{drop-length}
 use Rattle.km_model.specs.Pieces.{Piece, is_blank, pieces_from, goes_on, put_byte}
+use Rattle.km_script.specs.Left.{none_left}
 use Rattle.km_script.specs.Words.{IsAllBlank, IsFirstVisible}
 
 -- a word before the others, unless it is empty: then there is no word
@@ -83,3 +84,14 @@ some_word column first n cs behind word rest blanks f b e front back l =
     (let k : position_or_len is_blank (first ∷ behind) ≡ suc (position_or_len is_blank behind) = rw (f.visible) (omega arith) in ap suc e ∙ sym k)
     (ap (λ ds. first ∷ ds) front) back (ap suc l)
     ∙ ap (λ k. record { column = column + blanks; bytes = first ∷ word } ∷ pieces_from k rest) (let k : column + blanks + suc (length word) ≡ column + blanks + 1 + n = omega (arith, l) in k)
+
+-- the first word stands behind the blanks at the front
+pub some_left : (column first : ℕ) (cs : List ℕ) (blanks : ℕ) → IsFirstVisible cs blanks first
+    → none_left (pieces_from column cs) ≡ Err (record { column = column + blanks })
+some_left column first cs blanks f =
+    let behind = drop (blanks + 1) cs in
+    let longer : position_or_len is_blank (first ∷ behind) ≡ suc (position_or_len is_blank behind) = rw (f.visible) (omega arith) in
+    ap none_left (first_word column cs)
+    ∙ ap (λ n. none_left (word_behind column n cs)) (sym f.count)
+    ∙ ap (λ ds. none_left (front_word (column + blanks) (position_or_len is_blank ds) ds)) f.from
+    ∙ ap (λ n. none_left (front_word (column + blanks) n (first ∷ behind))) longer

@@ -26,9 +26,10 @@ pub fn is_digit(c: u8) -> bool
     48 <= c && c <= 57
 }
 
-/// Whether a byte is a letter of lower case, a digit or `_`: one of a word, of which nothing is noted.
+/// Whether a byte is one of a word of which nothing is noted, by one test: it stands behind `.` and `+`, and before
+/// the bytes that no command has.
 pub fn is_plain(c: u8) -> bool
     ensures { result ≡ is_plain_byte c }
 {
-    (97 <= c && c <= 122) || is_digit(c) || c == 95
+    47 <= c && c <= 126
 }

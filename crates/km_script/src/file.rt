@@ -1,23 +1,14 @@
 //! The words that are written to the file.
 
-ghost use Rattle.std.specs.Prelude.{◌≡◌, ◌∷◌, ◌++◌, codes, option_map, Some, None, if◌then◌else◌};
+ghost use Rattle.std.specs.Prelude.{◌≡◌, ◌∷◌, ◌++◌, codes, Some, None, if◌then◌else◌};
 ghost use Rattle.km_model.specs.Grammar.{file_command as command_of_word};
-ghost use Rattle.km_model.specs.Pieces.{behind_prefix};
-ghost use Rattle.km_script.specs.Words.{bytes_of};
 
+use crate::compare::{behind, is};
 use crate::numbers::{number, number_within};
-use crate::words::is;
 use km_base::FileCmd;
 
 /// The longest period of automatic scans, in seconds.
 const LONGEST_PERIOD: u64 = 86_400;
-
-/// What is left of a word behind these bytes, if it begins with them.
-fn behind<'a>(word: &'a [u8], prefix: &[u8]) -> Option<&'a [u8]>
-    ensures { option_map bytes_of result ≡ behind_prefix prefix.now word.now }
-{
-    word.strip_prefix(prefix)
-}
 
 /// The word by what stands behind `scan=o`.
 fn scan_switch(rest: &[u8]) -> Option<FileCmd>

@@ -2,6 +2,7 @@
 #![tactic(auto)]
 
 mod bytes;
+mod compare;
 mod file;
 mod keywords;
 mod line;

@@ -52,8 +52,8 @@ fn read_words(word: Word, words: &mut Words, first: bool) -> Result<Line, NotACo
 /// `memory` and not the first command, or the other way round; of the first word that doesn't fit;
 /// behind its last byte, if a word is missing.
 ///
-/// Each byte is looked at twice at most: where its word's end is looked for, and where the word is
-/// read, or, behind the word that doesn't fit, for one that no command has.
+/// Each byte is looked at twice at most: where its word's end, or a word too many, is looked for, and
+/// where the word is read, or, behind the words that were taken, for a byte that no command has.
 pub fn read_line(bytes: &[u8], first: bool) -> Result<Line, NotACommand>
     ensures { result ≡ line_of first bytes.now }
 {

@@ -10,9 +10,9 @@ ghost use Rattle.km_script.specs.Roles.{base_in, suffix_role};
 ghost use Rattle.km_script.specs.Words.{bytes_of_word};
 
 use crate::bytes::is_digit;
+use crate::compare::is;
 use crate::numbers::{number, number_behind};
 use crate::word::Word;
-use crate::words::is;
 use km_base::{Name, Reg};
 use km_model::{Base, Operand, RegName};
 
@@ -115,6 +115,7 @@ fn operand_with(first: u8, name: &[u8], role: Role, plus: u64) -> Option<Operand
 }
 
 /// An operand whose base has a name, in which the first `.` stands at a place.
+#[inline(always)]
 fn named_operand(first: u8, rest: &[u8], dot: Option<usize>, plus: u64) -> Option<Operand>
     requires named { is_digit_byte first ≡ false }
     requires dot { dot ≡ position (λ c. c == 46) rest.now }
@@ -132,6 +133,7 @@ fn named_operand(first: u8, rest: &[u8], dot: Option<usize>, plus: u64) -> Optio
 /// An operand of a base, in which the first `.` stands at a place, and what is added to it.
 ///
 /// The two kinds stay functions of their own, since an operand that is put together from both is copied in small pieces.
+#[inline(always)]
 fn operand_of(first: u8, rest: &[u8], dot: Option<usize>, plus: u64) -> Option<Operand>
     requires { dot ≡ position (λ c. c == 46) rest.now }
     ensures { result ≡ with_plus (base_of (first ∷ rest.now)) (Some plus) }

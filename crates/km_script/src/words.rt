@@ -1,6 +1,6 @@
 //! The words of a line.
 
-ghost use Rattle.std.specs.Prelude.{◌≡◌, ◌+◌, ◌≤◌, [], ◌∷◌, bytes_eq, drop, length, option_map, position, MatchOption};
+ghost use Rattle.std.specs.Prelude.{◌≡◌, ◌+◌, ◌≤◌, false, [], ◌∷◌, drop, length, option_map, position, MatchOption};
 ghost use Rattle.std.specs.List.{position_from};
 ghost use Rattle.km_base.specs.Names.{name_of};
 ghost use Rattle.km_model.specs.Grammar.{any_word, is_comment, is_foreign as is_foreign_byte, memory_size as memory_size_of, number as number_of, number_within as number_of_range, operand as operand_of_word, register_of as register_of_word};
@@ -61,13 +61,6 @@ impl<'a> Model for Words<'a> {
     ghost invariant = { λ a. (a.column + length a.rest.now ≡ a.end) × (a.end ≤ 257) };
 }
 
-/// Whether a word is this one.
-pub fn is(word: &[u8], keyword: &[u8]) -> bool
-    ensures { result ≡ bytes_eq keyword.now word.now }
-{
-    keyword == word
-}
-
 /// The number of blanks at the front, and the first byte behind them.
 fn first_visible(bytes: &[u8]) -> Option<(usize, u8)>
     ensures { MatchOption result (IsAllBlank bytes.now) (λ found. IsFirstVisible bytes.now found.0 found.1) }
@@ -84,20 +77,18 @@ fn first_visible(bytes: &[u8]) -> Option<(usize, u8)>
 fn behind_one(bytes: &[u8]) -> &[u8]
     ensures { result.now ≡ drop 1 bytes.now }
 {
-    match bytes {
-        [_, rest @ ..] => rest,
-        [] => bytes,
-    }
+    &bytes[bytes.len().min(1)..]
 }
 
 /// The column of the first byte that no command has, of a word's first byte and those behind it.
 fn foreign_in(column: u32, first: u8, behind: Option<u32>) -> Option<u32>
+    requires { is_blank_byte first ≡ false }
     ensures { result ≡ or_first (if_here (is_foreign_byte first) column) behind }
 {
-    if is_foreign(first) {
-        Some(column)
-    } else {
+    if 33 <= first && first <= 126 {
         behind
+    } else {
+        Some(column)
     }
 }
 
@@ -151,6 +142,9 @@ impl<'a> Words<'a> {
     }
 
     /// The next word. Each byte is looked at once, up to the blank behind the word.
+    ///
+    /// It is written into each caller, since a word is large: to hand it over by memory costs about as much as to find it.
+    #[inline(always)]
     pub fn next(&mut self) -> Option<Word<'a>>
         ensures word { option_map piece_of result ≡ first_piece self.old.pieces }
         ensures rest { self.new ≡ behind_word self.old }
@@ -176,6 +170,7 @@ impl<'a> Words<'a> {
     }
 
     /// The next word, which has to be there.
+    #[inline(always)]
     fn expect(&mut self) -> Result<Word<'a>, NotACommand>
         ensures word { map_ok piece_of result ≡ first_or_end self.old }
         ensures rest { self.new ≡ behind_word self.old }
@@ -244,12 +239,13 @@ impl<'a> Words<'a> {
     }
 
     /// No word is left.
-    pub fn none_left(&mut self) -> Result<(), NotACommand>
-        ensures left { result ≡ nothing_left self.old.pieces }
-        ensures kept { self.new.foreign ≡ self.old.foreign }
+    pub fn none_left(&self) -> Result<(), NotACommand>
+        ensures { result ≡ nothing_left self.now.pieces }
     {
-        match self.next() {
-            Some(word) => Err(word.refused()),
+        match first_visible(self.rest) {
+            Some((blanks, _first)) => Err(NotACommand {
+                column: self.column + blanks as u32,
+            }),
             None => Ok(()),
         }
     }
