@@ -2,12 +2,13 @@
 use Rattle.std.proofs.Common.{◌≡◌, ℕ, ◌+◌, List, [], ◌∷◌, ◌++◌, length, drop, Ok, ap, sym, ◌∙◌, refl, append_assoc}
 use Rattle.km_model.specs.declared.lines.Line.{Line}
 use Rattle.km_model.specs.declared.status.Status.{Status}
+use Rattle.km_model.specs.declared.status.Status.TheVariants as status
 use Rattle.km_model.specs.Grammar.{line_of}
 use Rattle.km_model.specs.Output.{is_fresh}
 use Rattle.km_edge.specs.Streams.{SinkState}
 use Rattle.km_edge.proofs.Writing.{wrote_none, wrote_more}
-use Rattle.km_engine.specs.Session.{Session, Place, StandsAt}
-use Rattle.km_engine.specs.Steps.{RanOn, RanAll, Stops, StopsAt}
+use Rattle.km_engine.specs.Session.{Session, Place, HasLed, StandsAt}
+use Rattle.km_engine.specs.Steps.{RanOn, RanAll, StaysLed, Stops, StopsAt}
 use Rattle.km_forms.proofs.LineLists.{IsLine}
 use Rattle.km_engine.proofs.Running.{ran_none, ran_more, ran_line, behind}
 
@@ -35,9 +36,9 @@ all_more p s' s'' held held' held'' k k' k'' l all x read on number is_line pass
     }
 
 -- the next line ends the run
-pub all_stop : (p : Place) (s' : Session) (held held' : List ℕ) (k k' k'' : SinkState) (ended : Status) (all : RanAll p s' held held' k k')
-    → StopsAt all.place held' k' k'' ended → Stops p held k k'' ended
-all_stop p s' held held' k k' k'' ended all stops = record {
+pub all_stop : (p : Place) (s' s'' : Session) (held held' : List ℕ) (k k' k'' : SinkState) (ended : Status) (all : RanAll p s' held held' k k')
+    → StopsAt all.place held' k' k'' ended → StaysLed s'' all.place ended → Stops p s'' held k k'' ended
+all_stop p s' s'' held held' k k' k'' ended all stops led = record {
   front = all.front;
   rest = held';
   written = all.written;
@@ -47,4 +48,15 @@ all_stop p s' held held' k k' k'' ended all stops = record {
   ran = all.ran;
   wrote = all.wrote;
   stops = stops;
+  led = led;
 }
+
+-- a machine that stands for some lines does so whatever ends the run
+pub stays_led : (s : Session) (p : Place) (ended : Status) → HasLed s.machine p.script → StaysLed s p ended
+stays_led s p (status.NotACommand _ _) led = led
+stays_led s p status.Ok led = tt
+stays_led s p status.ReadFault led = tt
+stays_led s p status.WriteFault led = tt
+stays_led s p status.NoMemory led = tt
+stays_led s p (status.BadWords _) led = tt
+stays_led s p status.TooLong led = tt

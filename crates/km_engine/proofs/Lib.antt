@@ -10,3 +10,6 @@ pub mod Buffers
 pub mod Rests
 pub mod Endings
 pub mod Runs
+pub mod Feeds
+pub mod Summaries
+pub mod ListedBlocks

@@ -1,20 +1,19 @@
 -- A whole run, from read to read.
-use Rattle.std.proofs.Common.{◌≡◌, ℕ, ◌+◌, ◌-◌, ◌^◌, ◌<◌, ◌≤◌, Bool, true, false, List, [], ◌∷◌, ◌++◌, length, take, drop, Option, Some, None, refl, ap, sym, subst, ◌∙◌, arith, append_assoc, length-append, if◌then◌else◌}
-use Rattle.std.proofs.lemmas.Bool.Decides.{nat_tests}
+use Rattle.std.proofs.Common.{◌≡◌, ℕ, ◌+◌, ◌-◌, ◌^◌, ◌<◌, ◌≤◌, true, false, List, [], ◌++◌, length, take, drop, Option, Some, refl, ap, sym, subst, ◌∙◌, arith, append_assoc, length-append}
 use Rattle.std.proofs.lemmas.List.{append-nil, take-append-drop}
 use Rattle.std.specs.Io.KnownBytes.{Consumes, Keeps, IsAtEnd}
 use Rattle.km_model.specs.declared.status.Status.{Status}
 use Rattle.km_model.specs.declared.status.Status.TheVariants as status
 use Rattle.km_model.specs.Grammar.{rules}
-use Rattle.km_model.specs.Output.{Fresh, Prints, all_but_last, is_empty, is_fresh, is_unread, limit, lines_of, end_of_script, status_from, status_of}
+use Rattle.km_model.specs.Output.{Fresh, Prints, is_empty, is_fresh, is_unread, limit, lines_of, end_of_script, status_from, status_of}
 use Rattle.km_edge.specs.Streams.{SourceState, SinkState, Rose, Wrote}
 use Rattle.km_edge.specs.Lines.{Unknown, next_of}
 use Rattle.km_edge.proofs.Writing.{wrote_none, wrote_more, rose_later}
+use Rattle.km_machine.specs.declared.machine.Machine.{Machine}
 use Rattle.km_engine.specs.Session.{Session, Place, StandsAt, HasRoomFor, start, first_place}
 use Rattle.km_forms.specs.Lines.{lines_in}
 use Rattle.km_engine.specs.Outcome.{Ends, EndsOver, EndsAsTold}
-use Rattle.km_forms.specs.Lines.{IsLeft}
-use Rattle.km_engine.specs.Steps.{RanFrom, RanAll, Stops, RunsRest, EndsRest, TakesRoom, RunsScript}
+use Rattle.km_engine.specs.Steps.{LedTo, RanFrom, RanAll, Stops, RunsRest, EndsRest, TakesRoom, RunsScript}
 use Rattle.km_forms.proofs.Limits.{beyond_limit, no_line, within_limit}
 use Rattle.km_forms.proofs.Sources.{at_end, consumes_more, consumes_none, keeps_consumes, left_after, some_left}
 use Rattle.km_engine.proofs.Rooms.{less_room}
@@ -109,9 +108,9 @@ running_more s0 s s' k0 k script held held' total n r size front took room grown
     }
 
 -- a line ends the run; what is held may have bytes behind it that weren't looked at
-pub running_stop : (s0 s : SourceState) (k0 k k' : SinkState) (script : Session) (held all extra : List ℕ) (total : ℕ) (ended : Status) (r : Running s0 s k0 k script all total)
-    → all ≡ held ++ extra → total ≤ limit + length extra → Stops r.place held k k' ended → RunsScript s0 s k0 k' ended
-running_stop s0 s k0 k k' script held all extra total ended r parts within stops =
+pub running_stop : (s0 s : SourceState) (k0 k k' : SinkState) (script script' : Session) (held all extra : List ℕ) (total : ℕ) (ended : Status) (r : Running s0 s k0 k script all total)
+    → all ≡ held ++ extra → total ≤ limit + length extra → Stops r.place script' held k k' ended → RunsScript s0 s k0 k' script'.machine ended
+running_stop s0 s k0 k k' script script' held all extra total ended r parts within stops =
     let ran = ran_more first_place r.place stops.place r.front r.written stops.front stops.written r.ran stops.ran in
     let whole : r.front ++ all ≡ ((r.front ++ stops.front) ++ stops.rest) ++ extra =
     ap (λ h. r.front ++ h) (parts ∙ ap (λ h. h ++ extra) stops.parts) ∙ sym (append_assoc r.front (stops.front ++ stops.rest) extra)
@@ -120,14 +119,15 @@ running_stop s0 s k0 k k' script held all extra total ended r parts within stops
     omega (arith, within, r.size, ap length parts, length-append held extra, ap length stops.parts, length-append stops.front stops.rest, length-append (r.front ++ stops.front) stops.rest, length-append r.front stops.front) in
     let room : length (stops.rest ++ extra) ≤ 4096 =
     omega (arith, r.room, ap length parts, length-append held extra, ap length stops.parts, length-append stops.front stops.rest, length-append stops.rest extra) in
-    let end = stop_at (Rose s0.faults s.faults) stops.place (r.front ++ stops.front) (r.written ++ stops.written) stops.rest extra k0 stops.sink k' ended ran
-    (wrote_more k0 k stops.sink r.written stops.written r.wrote stops.wrote) size room stops.stops in
+    let end = stop_at (Rose s0.faults s.faults) stops.place script' (r.front ++ stops.front) (r.written ++ stops.written) stops.rest extra k0 stops.sink k' ended ran
+    (wrote_more k0 k stops.sink r.written stops.written r.wrote stops.wrote) size room stops.stops stops.led in
     record {
       taken = ((r.front ++ stops.front) ++ stops.rest) ++ extra;
       written = end.0;
       took = subst (λ x. Consumes s0.left s.left x) whole r.took;
       wrote = end.1;
-      ends = λ remaining left. end.2 remaining;
+      ends = λ remaining left. (end.2 remaining).0;
+      led = λ remaining left. (end.2 remaining).1;
     }
 
 -- the whole lines were run
@@ -139,7 +139,7 @@ prints_whole front written held p ran none =
 
 -- a read failed
 pub running_fault : (s0 s s' : SourceState) (k0 k : SinkState) (script : Session) (held : List ℕ) (total : ℕ) → Running s0 s k0 k script held total
-    → next_of false held ≡ Unknown → Keeps s.left s'.left → s.faults ≤ s'.faults → Rose s.faults s'.faults → RunsScript s0 s' k0 k status.ReadFault
+    → next_of false held ≡ Unknown → Keeps s.left s'.left → s.faults ≤ s'.faults → Rose s.faults s'.faults → RunsScript s0 s' k0 k script.machine status.ReadFault
 running_fault s0 s s' k0 k script held total r u kept grown rose =
     let none = no_line held u in
     record {
@@ -152,12 +152,13 @@ running_fault s0 s s' k0 k script held total r u kept grown rose =
         ends_from first_place r.place r.front r.written held is_unread status.Ok r.ran ∙ ap (status_from rules status.Ok (is_fresh r.place.script) r.place.number) none,
         (r.place.script, prints_whole r.front r.written held r.place r.ran none),
       );
+      led = λ remaining left. tt;
     }
 
 -- the input is longer than a script may be
 pub running_long : (s0 s : SourceState) (k0 k k' : SinkState) (script script' : Session) (held all held' extra : List ℕ) (total : ℕ) (r : Running s0 s k0 k script all total)
     → all ≡ held ++ extra → length extra ≡ 1 → total ≡ limit + 1 → RanAll r.place script' held held' k k' → next_of false held' ≡ Unknown
-    → RunsScript s0 s k0 k' status.TooLong
+    → RunsScript s0 s k0 k' script'.machine status.TooLong
 running_long s0 s k0 k k' script script' held all held' extra total r parts one size ran u =
     let none = no_line held' u in
     let front = r.front ++ ran.front in
@@ -190,58 +191,68 @@ running_long s0 s k0 k k' script script' held all held' extra total r parts one 
                   (subst (λ ls. Prints Fresh 1 ls ran.place.script written) (sym beyond.0) (prints_whole front written held' ran.place run none)),
             ),
           );
+      led = λ remaining left. tt;
     }
 
 -- what the rest of the input means for the whole run
-rest_at : (ReadRose : Type 0) (front written held : List ℕ) (p : Place) (k0 k k' : SinkState) (ended : Status) → RanFrom first_place front written p → Wrote k0 k written
-    → length (front ++ held) ≤ limit → EndsRest p held k k' ended
-    → (w : List ℕ) × Wrote k0 k' w × Ends (front ++ held) (front ++ held) w ReadRose (Rose k0.faults k'.faults) ended
-rest_at ReadRose front written held p k0 k k' status.Ok ran wrote size rest =
+rest_at : (ReadRose : Type 0) (front written held : List ℕ) (p : Place) (s' : Session) (k0 k k' : SinkState) (ended : Status) → RanFrom first_place front written p → Wrote k0 k written
+    → length (front ++ held) ≤ limit → EndsRest p s'.machine held k k' ended
+    → (w : List ℕ) × Wrote k0 k' w × (Ends (front ++ held) (front ++ held) w ReadRose (Rose k0.faults k'.faults) ended × LedTo s'.machine (front ++ held) w ended)
+rest_at ReadRose front written held p s' k0 k k' status.Ok ran wrote size rest =
     let within = within_limit (front ++ held) size in
-    let out = rest.0.0 in (
-      written ++ out,
-      wrote_more k0 k k' written out wrote rest.0.2,
+    let run = out_of front written held rest.0.out p rest.0.end ran size rest.0.prints in (
+      written ++ rest.0.out,
+      wrote_more k0 k k' written rest.0.out wrote rest.0.wrote,
       (
-        refl,
-        ap (λ o. status_from rules o true 1 (lines_of (front ++ held))) within.1 ∙ ap (status_from rules status.Ok true 1) within.0 ∙ ends_from first_place p front written held is_empty status.Ok ran ∙ rest.1,
-        out_of front written held out p rest.0.1.0 ran size rest.0.1.1,
+        (
+          refl,
+          ap (λ o. status_from rules o true 1 (lines_of (front ++ held))) within.1 ∙ ap (status_from rules status.Ok true 1) within.0 ∙ ends_from first_place p front written held is_empty status.Ok ran ∙ rest.1,
+          (rest.0.end, run),
+        ),
+        (rest.0.end, run, rest.0.led),
       ),
     )
-rest_at ReadRose front written held p k0 k k' (status.NotACommand n c) ran wrote size rest =
+rest_at ReadRose front written held p s' k0 k k' (status.NotACommand n c) ran wrote size rest =
     let within = within_limit (front ++ held) size in
-    let out = rest.0.0 in (
-      written ++ out,
-      wrote_more k0 k k' written out wrote rest.0.2,
+    let run = out_of front written held rest.0.out p rest.0.end ran size rest.0.prints in (
+      written ++ rest.0.out,
+      wrote_more k0 k k' written rest.0.out wrote rest.0.wrote,
       (
-        ap (λ o. status_from rules o true 1 (lines_of (front ++ held))) within.1 ∙ ap (status_from rules status.Ok true 1) within.0 ∙ ends_from first_place p front written held is_empty status.Ok ran ∙ rest.1,
-        out_of front written held out p rest.0.1.0 ran size rest.0.1.1,
+        (
+          ap (λ o. status_from rules o true 1 (lines_of (front ++ held))) within.1 ∙ ap (status_from rules status.Ok true 1) within.0 ∙ ends_from first_place p front written held is_empty status.Ok ran ∙ rest.1,
+          (rest.0.end, run),
+        ),
+        (rest.0.end, run, rest.0.led),
       ),
     )
-rest_at ReadRose front written held p k0 k k' status.WriteFault ran wrote size rest =
+rest_at ReadRose front written held p s' k0 k k' status.WriteFault ran wrote size rest =
     let lines = lines_in is_empty held in
     let cut : lines_of (front ++ held) ≡ ran.lines ++ (lines ++ []) =
     (within_limit (front ++ held) size).0 ∙ ran.cut is_empty held ∙ ap (λ ls. ran.lines ++ ls) (sym (append-nil lines)) in
     let within = ends_within (front ++ held) front written rest.0 rest.1 lines [] p rest.2.0 k0 k k' ran wrote cut rest.2.1 rest.3 in
-    (written ++ take rest.1 rest.0, within.0, (within.1, within.2))
-rest_at ReadRose front written held p k0 k k' status.NoMemory ran wrote size rest =
+    (written ++ take rest.1 rest.0, within.0, ((within.1, within.2), tt))
+rest_at ReadRose front written held p s' k0 k k' status.NoMemory ran wrote size rest =
     let lines = (within_limit (front ++ held) size).0 ∙ ran.cut is_empty held ∙ ap (λ ls. ran.lines ++ ls) rest.2 in (
       written ++ [],
       wrote_more k0 k k' written [] wrote rest.0,
       (
-        append-nil written ∙ (ran.still_fresh rest.1).1,
-        ends_behind_memory front written held [] (front ++ held) held [] rest.3.0 p ran rest.1 rest.3.1 lines (sym (append-nil (front ++ held))) rest.2 (omega arith),
+        (
+          append-nil written ∙ (ran.still_fresh rest.1).1,
+          ends_behind_memory front written held [] (front ++ held) held [] rest.3.0 p ran rest.1 rest.3.1 lines (sym (append-nil (front ++ held))) rest.2 (omega arith),
+        ),
+        tt,
       ),
     )
-rest_at ReadRose front written held p k0 k k' status.ReadFault ran wrote size rest = absurd rest
-rest_at ReadRose front written held p k0 k k' (status.BadWords _) ran wrote size rest = absurd rest
-rest_at ReadRose front written held p k0 k k' status.TooLong ran wrote size rest = absurd rest
+rest_at ReadRose front written held p s' k0 k k' status.ReadFault ran wrote size rest = absurd rest
+rest_at ReadRose front written held p s' k0 k k' (status.BadWords _) ran wrote size rest = absurd rest
+rest_at ReadRose front written held p s' k0 k k' status.TooLong ran wrote size rest = absurd rest
 
 -- the rest of the input was run
-pub running_rest : (s0 s : SourceState) (k0 k k' : SinkState) (script : Session) (held : List ℕ) (total : ℕ) (ended : Status) → Running s0 s k0 k script held total
-    → total ≤ limit → IsAtEnd s.left → RunsRest script held k k' ended → RunsScript s0 s k0 k' ended
-running_rest s0 s k0 k k' script held total ended r within is_end rest =
+pub running_rest : (s0 s : SourceState) (k0 k k' : SinkState) (script script' : Session) (held : List ℕ) (total : ℕ) (ended : Status) → Running s0 s k0 k script held total
+    → total ≤ limit → IsAtEnd s.left → RunsRest script script' held k k' ended → RunsScript s0 s k0 k' script'.machine ended
+running_rest s0 s k0 k k' script script' held total ended r within is_end rest =
     let size : length (r.front ++ held) ≤ limit = omega (arith, within, r.size, length-append r.front held) in
-    let end = rest_at (Rose s0.faults s.faults) r.front r.written held r.place k0 k k' ended r.ran r.wrote size (rest r.place r.stands) in
+    let end = rest_at (Rose s0.faults s.faults) r.front r.written held r.place script' k0 k k' ended r.ran r.wrote size (rest r.place r.stands) in
     record {
       taken = r.front ++ held;
       written = end.0;
@@ -250,13 +261,16 @@ running_rest s0 s k0 k k' script held total ended r within is_end rest =
       ends = λ remaining left.
           let none = at_end s.left remaining is_end left in
           subst (λ bytes. Ends bytes (r.front ++ held) end.0 (Rose s0.faults s.faults) (Rose k0.faults k'.faults) ended)
-          (sym (append-nil (r.front ++ held)) ∙ ap (λ x. (r.front ++ held) ++ x) (sym none)) end.2;
+          (sym (append-nil (r.front ++ held)) ∙ ap (λ x. (r.front ++ held) ++ x) (sym none)) end.2.0;
+      led = λ remaining left.
+          let none = at_end s.left remaining is_end left in
+          subst (λ bytes. LedTo script'.machine bytes end.0 ended) (sym (append-nil (r.front ++ held)) ∙ ap (λ x. (r.front ++ held) ++ x) (sym none)) end.2.1;
     }
 
 -- the run as its contract says it
-pub ends_over : (s s' : SourceState) (k k' : SinkState) (ended : Status) (bytes : List ℕ) → RunsScript s s' k k' ended → s.left ≡ Some bytes
+pub ends_over : (s s' : SourceState) (k k' : SinkState) (ended : Status) (bytes : List ℕ) (machine : Option Machine) → RunsScript s s' k k' machine ended → s.left ≡ Some bytes
     → EndsOver bytes s s' k k' ended
-ends_over s s' k k' ended bytes r told =
+ends_over s s' k k' ended bytes machine r told =
     let left = left_after s.left s'.left bytes r.taken told r.took in
     record {
       taken = r.taken;
@@ -289,7 +303,7 @@ no_bad_words : (bytes taken written : List ℕ) (ReadRose WriteRose : Type 0) (e
 no_bad_words bytes taken written R W ended n e bad = subst (λ x. Ends bytes taken written R W x) bad e
 
 -- words of the form are not bad ones, whatever the source tells
-pub never_bad : (s s' : SourceState) (k k' : SinkState) (ended : Status) (n : ℕ) → RunsScript s s' k k' ended → ended ≡ status.BadWords n → ⊥
-never_bad s s' k k' ended n r bad =
+pub never_bad : (s s' : SourceState) (k k' : SinkState) (machine : Option Machine) (ended : Status) (n : ℕ) → RunsScript s s' k k' machine ended → ended ≡ status.BadWords n → ⊥
+never_bad s s' k k' machine ended n r bad =
     let left = some_left s'.left in
     no_bad_words (r.taken ++ left.0) r.taken r.written (Rose s.faults s'.faults) (Rose k.faults k'.faults) ended n (r.ends left.0 left.1) bad

@@ -1,15 +1,12 @@
 -- The line that ends a run.
-use Rattle.std.proofs.Common.{◌≡◌, ℕ, ◌+◌, ◌<◌, ◌≤◌, Bool, true, false, nat_lt, List, [], ◌∷◌, ◌++◌, length, take, drop, Result, Ok, Err, refl, ap, sym, subst, ◌∙◌, arith, append_assoc, length-append, if◌then◌else◌}
-use Rattle.std.proofs.lemmas.Bool.Decides.{nat_tests}
-use Rattle.std.proofs.lemmas.List.{append-nil, length-take, take-append-drop}
+use Rattle.std.proofs.Common.{◌≡◌, ℕ, ◌+◌, ◌≤◌, Bool, List, [], ◌∷◌, ◌++◌, length, take, drop, Result, Ok, Err, refl, ap, sym, subst, ◌∙◌, append_assoc}
+use Rattle.std.proofs.lemmas.List.{append-nil}
 use Rattle.km_model.specs.declared.lines.Line.{Line}
-use Rattle.km_model.specs.declared.lines.Line.TheVariants as line
 use Rattle.km_model.specs.declared.lines.NotACommand.{NotACommand as Refused}
 use Rattle.km_model.specs.declared.status.Status.{Status}
 use Rattle.km_model.specs.declared.status.Status.TheVariants as status
-use Rattle.km_model.specs.Grammar.{rules, line_by, line_of, is_comment, command_line}
-use Rattle.km_model.specs.Output.{Script, LeadsLine, Prints, all_but_last, is_empty, is_fresh}
-use Rattle.km_model.specs.Pieces.{pieces}
+use Rattle.km_model.specs.Grammar.{line_of}
+use Rattle.km_model.specs.Output.{Script, LeadsLine, Prints, is_empty, is_fresh}
 use Rattle.km_model.specs.Text.{not_a_command_text}
 use Rattle.km_edge.specs.Streams.{SinkState, Wrote}
 use Rattle.km_engine.specs.Session.{Place}

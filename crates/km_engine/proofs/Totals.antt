@@ -1,5 +1,5 @@
 -- Each line leads somewhere, so each script has an output.
-use Rattle.std.proofs.Common.{◌≡◌, ℕ, zero, suc, ◌+◌, ◌-◌, ◌*◌, ◌<◌, ◌≤◌, Bool, true, false, nat_le, is_none, IsTrue, List, [], ◌∷◌, ◌++◌, length, Option, Some, None, Ok, Err, MatchBool, refl, ap, sym, subst, ◌∙◌, arith, if◌then◌else◌}
+use Rattle.std.proofs.Common.{◌≡◌, ℕ, zero, suc, ◌+◌, ◌*◌, ◌<◌, ◌≤◌, Bool, true, false, nat_le, is_none, IsTrue, List, [], ◌∷◌, ◌++◌, length, Option, Some, None, Ok, Err, MatchBool, refl, ap, sym, subst, ◌∙◌, arith, if◌then◌else◌}
 use Rattle.std.proofs.lemmas.Bool.Decides.{nat_tests}
 use Rattle.km_base.specs.declared.acts.Act.TheVariants as act
 use Rattle.km_base.specs.declared.acts.FileCmd.TheVariants as file

@@ -2,3 +2,4 @@ pub mod Session
 pub mod Headline
 pub mod Outcome
 pub mod Steps
+pub mod Bench

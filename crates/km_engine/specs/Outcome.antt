@@ -1,11 +1,11 @@
 -- How a run over some bytes may end, and what it has then taken and written.
-use Rattle.std.specs.Prelude.{◌≡◌, ℕ, ◌+◌, ◌≤◌, Bool, true, List, [], ◌∷◌, ◌++◌, length, Some, Ok}
+use Rattle.std.specs.Prelude.{◌≡◌, ℕ, ◌+◌, ◌≤◌, true, List, [], ◌∷◌, ◌++◌, length, Some, Ok}
 use Rattle.km_model.specs.declared.lines.Command.TheVariants.{Memory}
 use Rattle.km_model.specs.declared.lines.Line.TheVariants as line
 use Rattle.km_model.specs.declared.status.Status.{Status}
 use Rattle.km_model.specs.declared.status.Status.TheVariants as status
 use Rattle.km_model.specs.Grammar.{rules, line_of}
-use Rattle.km_model.specs.Output.{Script, Fresh, Prints, IsOut, between_line_feeds, all_but_last, is_empty, is_unread, limit, lines_of, status_from, status_of}
+use Rattle.km_model.specs.Output.{Script, Fresh, Prints, IsOut, is_empty, limit, lines_of, status_from, status_of}
 use Rattle.km_edge.specs.Streams.{SourceState, SinkState, Rose, Wrote}
 use Rattle.km_forms.specs.Lines.{lines_in, whole_lines, IsPrefix}
 

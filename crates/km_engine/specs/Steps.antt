@@ -1,5 +1,5 @@
 -- What each part of a run does: one line, the whole lines of a buffer, the rest of the input.
-use Rattle.std.specs.Prelude.{◌≡◌, ℕ, ◌+◌, ◌<◌, ◌≤◌, Bool, true, false, List, [], ◌∷◌, ◌++◌, length, Option, None, Some, Result, Ok, Err, MatchResult}
+use Rattle.std.specs.Prelude.{◌≡◌, ℕ, ◌+◌, ◌≤◌, Bool, true, false, List, [], ◌∷◌, ◌++◌, length, Option, Result, Ok, Err, MatchResult}
 use Rattle.std.specs.Io.KnownBytes.{Consumes}
 use Rattle.km_model.specs.declared.lines.Command.{Command}
 use Rattle.km_model.specs.declared.lines.Command.TheVariants.{Memory}
@@ -10,7 +10,7 @@ use Rattle.km_model.specs.declared.status.Status.{Status}
 use Rattle.km_model.specs.declared.status.Status.TheVariants as status
 use Rattle.km_model.specs.Grammar.{rules, line_of}
 use Rattle.km_model.specs.Headline.{IsMemorySize}
-use Rattle.km_model.specs.Output.{Script, Prints, LeadsLine, is_empty, is_fresh, status_from}
+use Rattle.km_model.specs.Output.{Script, IsRun, Prints, LeadsLine, is_empty, is_fresh, status_from}
 use Rattle.km_model.specs.Text.{not_a_command_text}
 use Rattle.km_edge.specs.Streams.{SourceState, SinkState, Rose, Wrote, StoppedAt}
 use Rattle.km_machine.specs.declared.machine.Machine.{Machine}
@@ -57,13 +57,18 @@ abbrev pub EndsAt : Place → Result Line Refused → SinkState → SinkState �
 EndsAt p (Err e) k k' status = Refuses p.number e.column k k' status
 EndsAt p (Ok l) k k' status = EndsRun p.script l k k' status
 
+-- where a line is refused, the machine still stands for what the lines before it led to
+abbrev pub StaysLed : Session → Place → Status → Type 0
+StaysLed s' p (status.NotACommand _ _) = HasLed s'.machine p.script
+StaysLed s' p _ = Unit {0}
+
 -- the bytes of a line are read and run
 abbrev pub RunsLine : Session → Session → List ℕ → SinkState → SinkState → Result (Unit {0}) Status → Type 0
 RunsLine s s' bytes k k' result =
     (p : Place) → StandsAt s p
     → MatchResult result
     (λ _. (l : Line) × (line_of (is_fresh p.script) bytes ≡ Ok l) × RanOn s'.machine p.script l k k')
-    (EndsAt p (line_of (is_fresh p.script) bytes) k k')
+    (λ ended. EndsAt p (line_of (is_fresh p.script) bytes) k k' ended × StaysLed s' p ended)
 
 -- what was run took these bytes of the room
 abbrev pub TakesRoom : Session → Session → ℕ → ℕ → Type 0
@@ -111,7 +116,7 @@ StopsAt p rest k k' status.NoMemory = Wrote k k' [] × (is_fresh p.script ≡ tr
 StopsAt p rest k k' _ = ⊥
 
 -- some lines at the front of what is held were run, and the next one ends the run
-pub record Stops (p : Place) (held : List ℕ) (k k' : SinkState) (ended : Status) : Type 0 where
+pub record Stops (p : Place) (s' : Session) (held : List ℕ) (k k' : SinkState) (ended : Status) : Type 0 where
   pub front : List ℕ
   pub rest : List ℕ
   pub written : List ℕ
@@ -121,6 +126,7 @@ pub record Stops (p : Place) (held : List ℕ) (k k' : SinkState) (ended : Statu
   pub ran : RanFrom p front written place
   pub wrote : Wrote k sink written
   pub stops : StopsAt place rest sink k' ended
+  pub led : StaysLed s' place ended
 
 -- all whole lines that are held were run
 pub record RanAll (p : Place) (s' : Session) (held held' : List ℕ) (k k' : SinkState) : Type 0 where
@@ -135,34 +141,53 @@ pub record RanAll (p : Place) (s' : Session) (held held' : List ℕ) (k k' : Sin
 -- the whole lines that are held are run
 abbrev pub RunsLines : Session → Session → List ℕ → List ℕ → SinkState → SinkState → Result (Unit {0}) Status → Type 0
 RunsLines s s' held held' k k' result =
-    (p : Place) → StandsAt s p → MatchResult result (λ _. RanAll p s' held held' k k') (Stops p held k k')
+    (p : Place) → StandsAt s p → MatchResult result (λ _. RanAll p s' held held' k k') (Stops p s' held k k')
 
 -- the rest of the input, which ends without a line feed, leads to a text
 abbrev pub RestPrints : Place → List ℕ → List ℕ → Type 0
 RestPrints p rest out = (end : Script) × Prints p.script p.number (lines_in is_empty rest) end out
 
+-- the same, and a machine, if there is one, stands for where it leads
+pub record RestLeads (p : Place) (machine : Option Machine) (rest : List ℕ) (k k' : SinkState) : Type 0 where
+  pub end : Script
+  pub out : List ℕ
+  pub prints : Prints p.script p.number (lines_in is_empty rest) end out
+  pub led : HasLed machine end
+  pub wrote : Wrote k k' out
+
 -- how a run ends by the rest of the input
-abbrev pub EndsRest : Place → List ℕ → SinkState → SinkState → Status → Type 0
-EndsRest p rest k k' status.Ok =
-    ((out : List ℕ) × RestPrints p rest out × Wrote k k' out)
+abbrev pub EndsRest : Place → Option Machine → List ℕ → SinkState → SinkState → Status → Type 0
+EndsRest p machine rest k k' status.Ok =
+    RestLeads p machine rest k k'
     × (status_from rules status.Ok (is_fresh p.script) p.number (lines_in is_empty rest) ≡ status.Ok)
-EndsRest p rest k k' (status.NotACommand n c) =
-    ((out : List ℕ) × RestPrints p rest out × Wrote k k' out)
+EndsRest p machine rest k k' (status.NotACommand n c) =
+    RestLeads p machine rest k k'
     × (status_from rules status.Ok (is_fresh p.script) p.number (lines_in is_empty rest) ≡ status.NotACommand n c)
-EndsRest p rest k k' status.WriteFault = (out : List ℕ) × (n : ℕ) × RestPrints p rest out × StoppedAt k k' out n
-EndsRest p rest k k' status.NoMemory =
+EndsRest p machine rest k k' status.WriteFault = (out : List ℕ) × (n : ℕ) × RestPrints p rest out × StoppedAt k k' out n
+EndsRest p machine rest k k' status.NoMemory =
     Wrote k k' [] × (is_fresh p.script ≡ true) × (lines_in is_empty rest ≡ rest ∷ [])
     × ((words : ℕ) × (line_of true rest ≡ Ok (line.Command (Memory words))))
-EndsRest p rest k k' _ = ⊥
+EndsRest p machine rest k k' _ = ⊥
 
 -- the rest of the input is run
-abbrev pub RunsRest : Session → List ℕ → SinkState → SinkState → Status → Type 0
-RunsRest s rest k k' ended = (p : Place) → StandsAt s p → EndsRest p rest k k' ended
+abbrev pub RunsRest : Session → Session → List ℕ → SinkState → SinkState → Status → Type 0
+RunsRest s s' rest k k' ended = (p : Place) → StandsAt s p → EndsRest p s'.machine rest k k' ended
+
+-- bytes lead to a text, and a machine, if there is one, stands for where they lead
+abbrev pub LeadsTo : Option Machine → List ℕ → List ℕ → Type 0
+LeadsTo machine bytes out = (end : Script) × IsRun bytes end out × HasLed machine end
+
+-- where a run comes to the end of its lines, or to one that is no command, its machine stands for where they led
+abbrev pub LedTo : Option Machine → List ℕ → List ℕ → Status → Type 0
+LedTo machine bytes out status.Ok = LeadsTo machine bytes out
+LedTo machine bytes out (status.NotACommand _ _) = LeadsTo machine bytes out
+LedTo machine bytes out _ = Unit {0}
 
 -- a run over what a source gives
-pub record RunsScript (s s' : SourceState) (k k' : SinkState) (ended : Status) : Type 0 where
+pub record RunsScript (s s' : SourceState) (k k' : SinkState) (machine : Option Machine) (ended : Status) : Type 0 where
   pub taken : List ℕ
   pub written : List ℕ
   pub took : Consumes s.left s'.left taken
   pub wrote : Wrote k k' written
   pub ends : (remaining : List ℕ) → IsLeft s'.left remaining → Ends (taken ++ remaining) taken written (Rose s.faults s'.faults) (Rose k.faults k'.faults) ended
+  pub led : (remaining : List ℕ) → IsLeft s'.left remaining → LedTo machine (taken ++ remaining) written ended

@@ -47,7 +47,7 @@ pub fn run_rest<K: Sink>(script: &mut Script, alloc: Global, lines: &Lines, sink
     requires numbered { script.old.number < 2 ^ 64 - 1 }
     requires rest { next_of false lines.now ≡ Unknown }
     requires room { HasRoomFor script.old.machine (length lines.now) }
-    ensures { RunsRest script.old lines.now (K.state sink.old) (K.state sink.new) result }
+    ensures { RunsRest script.old script.new lines.now (K.state sink.old) (K.state sink.new) result }
 {
     let Cut::Line(line) = lines.cut(true) else {
         return Status::Ok;

@@ -1,8 +1,12 @@
 //! Turns bytes into lines, lines into events, and answers into texts.
 #![tactic(auto)]
 
+mod bench;
 mod buffer;
+mod held;
+mod listed;
 mod program;
+mod reading;
 mod script;
 
 pub use km_model::Status;

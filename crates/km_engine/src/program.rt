@@ -1,52 +1,37 @@
 //! The top call.
 
-ghost use Rattle.std.specs.Prelude.{◌≡◌, ◌≢◌, ℕ, List, Some, Ok, Err, map, string_bytes};
+ghost use Rattle.std.specs.Prelude.{◌≡◌, ◌≢◌, ℕ, List, Option, Some, Ok, Err, map, string_bytes};
 ghost use Rattle.km_edge.specs.Streams.{Rose};
 ghost use Rattle.km_forms.specs.declared.words.Form.{Form};
-ghost use Rattle.km_forms.specs.Forms.{IsBuilt, form_of_words};
+ghost use Rattle.km_forms.specs.Forms.{form_of_words};
 ghost use Rattle.km_forms.specs.Checks.{ChecksAsTold, ChecksOver};
+ghost use Rattle.km_engine.specs.Bench.{BenchEnds};
 ghost use Rattle.km_engine.specs.Headline.{Headline};
 ghost use Rattle.km_engine.specs.Outcome.{EndsAsTold, EndsOver};
 ghost use Rattle.km_engine.specs.Steps.{RunsScript};
+ghost use Rattle.km_machine.specs.declared.machine.Machine.{Machine};
 
-use crate::buffer::{run_lines, run_rest};
+use crate::bench::bench;
+use crate::reading::run_from;
 use crate::script::Script;
-use km_edge::{Lines, Sink, Source};
+use km_edge::{Sink, Source};
 use km_forms::{Form, check, form_of};
 use km_model::Status;
 use std::alloc::Global;
 
-/// The most bytes of a script.
-const LIMIT: u64 = 67_108_864;
-
-/// Reads and runs a script, line by line: each whole line that was read runs before the next read.
+/// Reads and runs a script from its first line.
 fn run_script<S: Source, K: Sink>(alloc: Global, source: &mut S, sink: &mut K) -> Status
-    ensures { RunsScript (S.state source.old) (S.state source.new) (K.state sink.old) (K.state sink.new) result }
+    ensures { (machine : Option Machine) × RunsScript (S.state source.old) (S.state source.new) (K.state sink.old) (K.state sink.new) machine result }
 {
-    let mut lines = Lines::new();
     let mut script = Script::new();
-    let mut taken: u64 = 0;
-    while taken <= LIMIT {
-        if let Err(ended) = run_lines(&mut script, alloc, &mut lines, sink) {
-            return ended;
-        }
-        match lines.fill(source, (LIMIT + 1 - taken) as usize) {
-            Ok(0) => return run_rest(&mut script, alloc, &lines, sink),
-            Ok(n) => taken += n as u64,
-            Err(_) => return Status::ReadFault,
-        }
-    }
-    lines.drop_last();
-    match run_lines(&mut script, alloc, &mut lines, sink) {
-        Ok(()) => Status::TooLong,
-        Err(ended) => ended,
-    }
+    run_from(&mut script, alloc, source, sink)
 }
 
 /// All that the program does. `words` are the words behind the program's name.
 ///
 /// With none it reads a script from the source, runs it, and writes its reports to the sink. With `check` it reads the
-/// script, runs nothing, and writes the number of its commands.
+/// script, runs nothing, and writes the number of its commands. With `bench`, a number and a number of steps it reads
+/// nothing, runs the script that is generated from them, and writes a summary.
 pub fn run<S: Source, K: Sink>(
     alloc: Global,
     words: &[String],
@@ -57,12 +42,8 @@ pub fn run<S: Source, K: Sink>(
     ensures bad_words { (place : ℕ) → form_of_words (map string_bytes words.now) ≡ Err place
         → (result ≡ Status.BadWords place) × (source.new ≡ source.old) × (sink.new ≡ sink.old) }
 
-    // Words of a form that runs are good.
-    ensures good_words { (form : Form) → form_of_words (map string_bytes words.now) ≡ Ok form → IsBuilt form → (n : ℕ) → result ≢ Status.BadWords n }
-
-    // So far `bench` is taken for a word that doesn't fit.
-    ensures unbuilt { (number steps : ℕ) → form_of_words (map string_bytes words.now) ≡ Ok (Form.Bench number steps)
-        → (result ≡ Status.BadWords 1) × (source.new ≡ source.old) × (sink.new ≡ sink.old) }
+    // Words of a form are good.
+    ensures good_words { (form : Form) → form_of_words (map string_bytes words.now) ≡ Ok form → (n : ℕ) → result ≢ Status.BadWords n }
 
     // How a run ends, by the bytes that the source has left, what was taken of them, and what was written.
     ensures ends { form_of_words (map string_bytes words.now) ≡ Ok Form.Run → (bytes : List ℕ) → (S.state source.old).left ≡ Some bytes
@@ -82,6 +63,10 @@ pub fn run<S: Source, K: Sink>(
         → ¬ (Rose (S.state source.old).faults (S.state source.new).faults) → ¬ (Rose (K.state sink.old).faults (K.state sink.new).faults)
         → ChecksAsTold bytes (K.state sink.old) (K.state sink.new) result }
 
+    // How a bench ends: it reads nothing, and writes the summary of a generated script.
+    ensures bench_ends { (number steps : ℕ) → form_of_words (map string_bytes words.now) ≡ Ok (Form.Bench number steps)
+        → BenchEnds number steps (K.state sink.old) (K.state sink.new) result × (source.new ≡ source.old) }
+
     // Whatever the lines are: what is listed was not held, and what was forgotten is listed.
     ensures headline { (lines : List (List ℕ)) → Headline lines }
 {
@@ -89,6 +74,6 @@ pub fn run<S: Source, K: Sink>(
         Err(word) => Status::BadWords { word },
         Ok(Form::Run) => run_script(alloc, source, sink),
         Ok(Form::Check) => check(source, sink),
-        Ok(Form::Bench { .. }) => Status::BadWords { word: 1 },
+        Ok(Form::Bench { number, steps }) => bench(alloc, number, steps, sink),
     }
 }

@@ -6,6 +6,7 @@ ghost use Rattle.km_machine.specs.Machines.{For};
 ghost use Rattle.km_engine.specs.Session.{HasRoomToRun, SpendsOn};
 ghost use Rattle.km_engine.specs.Steps.{IsFit, IsFitLine, IsMemory, Runs};
 
+use crate::listed::listed;
 use km_edge::Sink;
 use km_forms::refuse;
 use km_machine::Machine;
@@ -31,7 +32,9 @@ impl Model for Script {
 
 impl Script {
     ghost use Rattle.std.specs.Prelude.{◌≡◌, ◌<◌, ◌+◌, ◌-◌, ◌^◌, IfOk, length};
-    ghost use Rattle.km_engine.specs.Session.{HasRoomFor, start, is_fresh as is_fresh_session};
+    ghost use Rattle.km_engine.specs.Session.{HasLed, HasRoomFor, start, is_fresh as is_fresh_session};
+    ghost use Rattle.km_engine.specs.Bench.{listed_at};
+    ghost use Rattle.km_model.specs.Output.{Script as Led};
     ghost use Rattle.km_engine.specs.Steps.{RunsLine, TakesRoom};
 
     /// Before the first line.
@@ -56,6 +59,16 @@ impl Script {
         ensures { result ≡ is_fresh_session self.now }
     {
         self.machine.is_none()
+    }
+
+    /// The number of blocks that are listed.
+    pub fn listed(&self) -> u32
+        ensures { (led : Led) → HasLed self.now.machine led → result ≡ listed_at led }
+    {
+        match &self.machine {
+            Some(machine) => listed(machine.core.track()),
+            None => 0,
+        }
     }
 
     /// Reads and runs one line, without its line feed. An `Err` is how the script ends.

@@ -39,12 +39,6 @@ abbrev pub form_of_words : List (List ℕ) → Result Form ℕ
 form_of_words [] = Ok Run
 form_of_words (word ∷ rest) = named_form word rest
 
--- the forms that the program takes so far
-abbrev pub IsBuilt : Form → Type 0
-IsBuilt Run = Unit {0}
-IsBuilt Check = Unit {0}
-IsBuilt (Bench _ _) = ⊥
-
 -- a bench has no more steps than a generated script may have
 abbrev pub HasFewSteps : Form → Type 0
 HasFewSteps (Bench number steps) = steps ≤ 1000000

@@ -15,6 +15,9 @@ const SCRIPT: &[u8] =
 /// What a check of it writes.
 const TEXT: &[u8] = b"6 commands\n";
 
+/// What a bench of the script of number 1 without steps writes.
+const SUMMARY: &[u8] = b"bench: number 1, steps 0\nbench: 8 lines, 25 bytes out, 0 listed\n";
+
 /// Runs with these words a script that comes in pieces, into a sink with as much room, where the read of a number fails (0: none).
 fn run_with(
     alloc: Global,
@@ -106,11 +109,63 @@ fn a_check_writes_nothing_where_a_read_fails(rt: HostRuntime) -> Result<(), Fail
 }
 
 #[test]
-fn a_full_sink_holds_the_front_of_a_check(rt: HostRuntime) -> Result<(), Fail> {
-    for room in 0..TEXT.len() {
-        let report = run_with(rt.alloc(), &["check"], SCRIPT, 4096, 0, room)?;
-        assert_eq!(rt; report.status, Status::WriteFault, "with room {room}");
-        assert_eq!(rt; report.text.as_slice(), &TEXT[..room], "with room {room}");
+fn a_full_sink_holds_the_front_of_a_summary(rt: HostRuntime) -> Result<(), Fail> {
+    let rows: [(&[&str], &[u8]); 2] = [(&["check"], TEXT), (&["bench", "1", "0"], SUMMARY)];
+    for (words, text) in rows {
+        for room in 0..text.len() {
+            let report = run_with(rt.alloc(), words, SCRIPT, 4096, 0, room)?;
+            assert_eq!(rt;
+                report.status,
+                Status::WriteFault,
+                "{words:?} with room {room}"
+            );
+            assert_eq!(rt;
+                report.text.as_slice(),
+                &text[..room],
+                "{words:?} with room {room}"
+            );
+        }
     }
+    Ok(())
+}
+
+#[test]
+fn a_bench_writes_a_summary(rt: HostRuntime) -> Result<(), Fail> {
+    let rows: [(&[&str], &[u8]); 5] = [
+        (&["bench", "1", "0"], SUMMARY),
+        (
+            &["bench", "1", "1"],
+            b"bench: number 1, steps 1\nbench: 9 lines, 25 bytes out, 0 listed\n",
+        ),
+        (
+            &["bench", "2", "1"],
+            b"bench: number 2, steps 1\nbench: 10 lines, 48 bytes out, 0 listed\n",
+        ),
+        (
+            &["bench", "4", "1"],
+            b"bench: number 4, steps 1\nbench: 10 lines, 52 bytes out, 0 listed\n",
+        ),
+        (
+            &["bench", "0x4", "0x1"],
+            b"bench: number 4, steps 1\nbench: 10 lines, 52 bytes out, 0 listed\n",
+        ),
+    ];
+    for (words, text) in rows {
+        // the first read fails: nothing is read
+        let report = run_with(rt.alloc(), words, SCRIPT, 16, 1, 100)?;
+        assert_eq!(rt; report.status, Status::Ok, "the status of {words:?}");
+        assert_eq!(rt; report.text.as_slice(), text, "the text of {words:?}");
+    }
+    Ok(())
+}
+
+#[test]
+fn a_bench_writes_the_same_at_each_run(rt: HostRuntime) -> Result<(), Fail> {
+    let words = ["bench", "1", "100000"];
+    let first = run_with(rt.alloc(), &words, SCRIPT, 16, 0, 100)?;
+    let second = run_with(rt.alloc(), &words, SCRIPT, 16, 0, 100)?;
+    assert_eq!(rt; first.status, Status::Ok);
+    assert_eq!(rt; second.status, Status::Ok);
+    assert_eq!(rt; first.text.as_slice(), second.text.as_slice());
     Ok(())
 }

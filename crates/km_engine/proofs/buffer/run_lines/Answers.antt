@@ -3,7 +3,7 @@ use Rattle.km_forms.specs.Lines.{Refuses}
 use Rattle.km_forms.proofs.LineLists.{held_line, held_long, feed_within}
 use Rattle.km_engine.proofs.Rooms.{less_room, takes_more}
 use Rattle.km_engine.proofs.Stopping.{stops_line, stops_long}
-use Rattle.km_engine.proofs.Buffers.{all_none, all_more, all_stop}
+use Rattle.km_engine.proofs.Buffers.{all_none, all_more, all_stop, stays_led}
 use Rattle.km_engine.proofs.buffer.run_lines.Goals as goal
 
 pub loop-line-init : goal.loop-line-init
@@ -21,9 +21,10 @@ returns-in-Long-clause-runs g c =
     let long = held_long c.loop-line.lines c.in-Long.ensures in
     λ p stands.
     let all = c.loop-line.invariant.ran p stands in
-    all_stop p _ _ _ _ _ _ _ all
+    all_stop p _ _ _ _ _ _ _ c.refuse.result all
     (stops_long all.place c.loop-line.lines _ _ c.refuse.result long.0 long.1
     (subst (λ (n : ℕ). Refuses n 257 (g.K.Sink.state c.loop-line.sink) (g.K.Sink.state c.refuse.new.sink) c.refuse.result) (c.number.ensures ∙ all.stands.number) c.refuse.ensures))
+    (stays_led c.loop-line.script all.place c.refuse.result all.stands.led)
 
 pub loop-line-preserved : goal.loop-line-preserved
 loop-line-preserved g c =
@@ -46,5 +47,7 @@ returns-in-Err-clause-runs g c =
     let l = c.in-Line.line.now in
     λ p stands.
     let all = c.loop-line.invariant.ran p stands in
-    all_stop p _ _ _ _ _ _ _ all
-    (stops_line all.place l c.loop-line.lines _ _ c.in-Err.ended (held_line c.loop-line.lines l c.in-Line.ensures) (c.in-Err.ensures.runs all.place all.stands))
+    let stop = c.in-Err.ensures.runs all.place all.stands in
+    all_stop p _ _ _ _ _ _ _ c.in-Err.ended all
+    (stops_line all.place l c.loop-line.lines _ _ c.in-Err.ended (held_line c.loop-line.lines l c.in-Line.ensures) stop.0)
+    stop.1

@@ -9,7 +9,9 @@ returns-in-Ok g c =
 
 pub returns-in-Err : goal.returns-in-Err
 returns-in-Err g c =
-    λ p stands. rest_ends p c.args.lines.now c.in-Line.line.now _ _ c.in-Err.ended c.requires.rest c.in-Line.ensures (c.in-Err.ensures.runs p stands)
+    λ p stands.
+    let stop = c.in-Err.ensures.runs p stands in
+    rest_ends p c.line.new.self c.args.lines.now c.in-Line.line.now _ _ c.in-Err.ended c.requires.rest c.in-Line.ensures stop.0 stop.1
 
 pub returns-in_default : goal.returns-in_default
-returns-in_default g c = λ p stands. rest_none p c.args.lines.now _ c.cut.result c.requires.rest c.cut.ensures c.in_default.not-Line
+returns-in_default g c = λ p stands. rest_none p c.args.script.now c.args.lines.now _ c.cut.result stands.led c.requires.rest c.cut.ensures c.in_default.not-Line

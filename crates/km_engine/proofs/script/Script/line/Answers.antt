@@ -8,6 +8,7 @@ use Rattle.km_forms.specs.Lines.{Refuses}
 use Rattle.km_engine.specs.Steps.{EndsAt, IsFitLine}
 use Rattle.km_engine.proofs.Fit.{read_is_fit}
 use Rattle.km_engine.proofs.Lines.{fresh_as}
+use Rattle.km_engine.proofs.Buffers.{stays_led}
 use Rattle.km_engine.proofs.Rooms.{less_room, room_to_run, line_takes}
 use Rattle.km_engine.proofs.script.Script.line.Goals as goal
 
@@ -29,9 +30,11 @@ returns-in-Err-clause-runs g c =
     let k' = g.K.Sink.state c.refuse.new.sink in
     λ p stands.
     let read : Err c.in-Err.refused ≡ line_of (is_fresh p.script) c.args.bytes.now =
-    c.in-Err.ensures ∙ ap (λ b. line_of b c.args.bytes.now) (c.is_fresh.ensures ∙ fresh_as c.args.self.now.machine p.script stands.led) in
-    subst (λ (r : Result Line Refused). EndsAt p r k k' c.refuse.result) read
-    (subst (λ (n : ℕ). Refuses n c.in-Err.refused.column k k' c.refuse.result) (ap (λ s. s.number) c.self.view_is ∙ stands.number) c.refuse.ensures)
+    c.in-Err.ensures ∙ ap (λ b. line_of b c.args.bytes.now) (c.is_fresh.ensures ∙ fresh_as c.args.self.now.machine p.script stands.led) in (
+      subst (λ (r : Result Line Refused). EndsAt p r k k' c.refuse.result) read
+          (subst (λ (n : ℕ). Refuses n c.in-Err.refused.column k k' c.refuse.result) (ap (λ s. s.number) c.self.view_is ∙ stands.number) c.refuse.ensures),
+      stays_led c.args.self.now p c.refuse.result stands.led,
+    )
 
 pub returns-in_ok-run-in-Ok-clause-runs : goal.returns-in_ok-run-in-Ok-clause-runs
 returns-in_ok-run-in-Ok-clause-runs g c =

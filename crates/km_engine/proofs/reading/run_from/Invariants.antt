@@ -1,7 +1,7 @@
 use Rattle.std.proofs.Common.{◌+◌, ◌-◌, ◌<◌, ◌≤◌, length}
 use Rattle.km_model.specs.Output.{limit}
 use Rattle.km_engine.proofs.Runs.{Running}
-use Rattle.km_engine.proofs.program.run_script.Given as goal
+use Rattle.km_engine.proofs.reading.run_from.Given as goal
 
 -- the run between two reads
 abbrev pub invariant-loop-taken : goal.invariant-loop-taken

@@ -1,0 +1,65 @@
+-- The summary of a run over a generated script.
+use Rattle.std.proofs.Common.{◌≡◌, ℕ, ◌+◌, ◌*◌, ◌≤◌, min, max, List, ◌++◌, length, Option, Some, inl, inr, refl, ap, sym, subst, ◌∙◌, arith, length-append}
+use Rattle.std.specs.List.{count_by}
+use Rattle.km_edge.specs.Lines.{is_line_feed}
+use Rattle.km_edge.specs.Memory.{count_state}
+use Rattle.km_edge.specs.Streams.{SinkState, Counts, Rose, greatest}
+use Rattle.km_forms.specs.declared.words.Form.TheVariants.{Bench}
+use Rattle.km_gen.specs.Generated.{generated_script}
+use Rattle.km_model.specs.declared.status.Status.{Status}
+use Rattle.km_model.specs.declared.status.Status.TheVariants as status
+use Rattle.km_model.specs.Output.{Script, IsRun, limit}
+use Rattle.km_machine.specs.declared.machine.Machine.{Machine}
+use Rattle.km_engine.specs.Bench.{BenchEnds, SumsUp, held_state, listed_at}
+use Rattle.km_engine.specs.Outcome.{Ends}
+use Rattle.km_engine.specs.Session.{HasLed}
+use Rattle.km_engine.specs.Steps.{LeadsTo, LedTo, RunsScript}
+use Rattle.km_engine.proofs.Feeds.{script_lines}
+
+-- what was counted
+counted_is : (before after count size : ℕ) → Counts (Some before) (Some after) size → before ≡ 0 → count ≡ after → count ≡ min size greatest
+counted_is before after count size c none told = let same : after ≡ max before (min (before + size) greatest) = cc in omega (arith, same, none, told)
+
+-- a count of faults that stays 0 did not rise
+none_rose : Rose 0 0 → ⊥
+none_rose (inl less) = omega (arith, less)
+none_rose (inr full) = omega (arith, full)
+
+-- where neither side fails and the script is short enough, only want of memory keeps a run from its end
+led_at : (machine : Option Machine) (bytes taken written : List ℕ) (ended : Status) → Ends bytes taken written (Rose 0 0) (Rose 0 0) ended → length taken ≤ limit → ¬ (ended ≡ status.NoMemory)
+    → LedTo machine bytes written ended → LeadsTo machine bytes written
+led_at machine bytes taken written status.Ok e short m led = led
+led_at machine bytes taken written (status.NotACommand _ _) e short m led = led
+led_at machine bytes taken written status.ReadFault e short m led = absurd (none_rose e.0)
+led_at machine bytes taken written status.WriteFault e short m led = absurd (none_rose e.0)
+led_at machine bytes taken written status.NoMemory e short m led = absurd (m refl)
+led_at machine bytes taken written (status.BadWords _) e short m led = absurd e
+led_at machine bytes taken written status.TooLong e short m led = let long = e.0 in absurd (omega (arith, long, short))
+
+-- the summary of such a run
+pub sums_up : (number steps feeds listed before after count : ℕ) (script rest : List ℕ) (machine : Option Machine) (ended : Status)
+    → RunsScript (held_state script) (held_state rest) (count_state before) (count_state after) machine ended → ¬ (ended ≡ status.NoMemory) → before ≡ 0 → count ≡ after
+    → script ≡ generated_script number steps → steps ≤ 1000000 → length script ≤ 81 + 38 * steps → feeds ≡ count_by is_line_feed script
+    → ((end : Script) → HasLed machine end → listed ≡ listed_at end) → SumsUp number steps (record { lines = feeds; bytes = count; listed = listed })
+sums_up number steps feeds listed before after count script rest machine ended r some none told same few short fed lists =
+    let within : length r.taken ≤ limit = omega (arith, ap length r.took, length-append r.taken rest, few, short) in
+    let leads = led_at machine (r.taken ++ rest) r.taken r.written ended (r.ends rest refl) within some (r.led rest refl) in
+    record {
+      end = leads.0;
+      out = r.written;
+      run = subst (λ b. IsRun b leads.0 r.written) (sym r.took ∙ same) leads.1;
+      lines = fed ∙ script_lines number steps script same few short;
+      bytes = counted_is before after count (length r.written) r.wrote.counted none told;
+      listed = lists leads.0 leads.2;
+    }
+
+-- words of the form are not bad ones
+pub bench_never_bad : (number steps : ℕ) (k k' : SinkState) (ended : Status) (n : ℕ) → BenchEnds number steps k k' ended → ended ≡ status.BadWords n → ⊥
+bench_never_bad number steps k k' ended n ends bad = subst (λ x. BenchEnds number steps k k' x) bad ends
+
+-- the number and the steps are those of the words
+pub bench_of : (a b number steps : ℕ) (k k' : SinkState) (ended : Status) → Bench a b ≡ Bench number steps → BenchEnds a b k k' ended → BenchEnds number steps k k' ended
+bench_of a b number steps k k' ended same ends =
+    let n : a ≡ number = cc in
+    let s : b ≡ steps = cc in
+    subst (λ x. BenchEnds x steps k k' ended) n (subst (λ y. BenchEnds a y k k' ended) s ends)
