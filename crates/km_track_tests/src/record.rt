@@ -1,6 +1,6 @@
 //! Records against tables that were worked out by hand.
 
-ghost use Rattle.std.specs.Prelude.{◌≡◌};
+ghost use Rattle.std.specs.Prelude.{◌≡◌, ◌+◌, ◌<◌};
 ghost use Rattle.km_record.specs.Records.{IsLaid};
 
 use km_base::{Addr, Span};
@@ -30,58 +30,27 @@ fn record() -> Record
     }
 }
 
+/// An area so far from the start of the block.
+fn area(at: u64, size: u64) -> Span
+    requires { at < 64 }
+    ensures { result ≡ record { start = record { 0 = B + at }; size = size } }
+{
+    Span {
+        start: Addr(B + at),
+        size,
+    }
+}
+
 #[test]
 fn areas_given_out_of_order_are_scanned_in_order(rt: HostRuntime) {
     let mut block = record();
-    assert_eq!(rt;
-        block.add_area(Span {
-            start: Addr(B + 40),
-            size: 16
-        }),
-        Ok(())
-    );
-    assert_eq!(rt;
-        block.add_area(Span {
-            start: Addr(B + 8),
-            size: 8
-        }),
-        Ok(())
-    );
-    assert_eq!(rt;
-        block.add_area(Span {
-            start: Addr(B + 56),
-            size: 16
-        }),
-        Err(AreaFault::NotInside)
-    );
-    assert_eq!(rt;
-        block.add_area(Span {
-            start: Addr(B + 0),
-            size: 16
-        }),
-        Err(AreaFault::AreaOverlap)
-    );
-    assert_eq!(rt;
-        block.add_area(Span {
-            start: Addr(B + 24),
-            size: 8
-        }),
-        Ok(())
-    );
-    assert_eq!(rt;
-        block.add_area(Span {
-            start: Addr(B + 0),
-            size: 8
-        }),
-        Ok(())
-    );
-    assert_eq!(rt;
-        block.add_area(Span {
-            start: Addr(B + 32),
-            size: 8
-        }),
-        Err(AreaFault::TooManyAreas)
-    );
+    assert_eq!(rt; block.add_area(area(40, 16)), Ok(()));
+    assert_eq!(rt; block.add_area(area(8, 8)), Ok(()));
+    assert_eq!(rt; block.add_area(area(56, 16)), Err(AreaFault::NotInside));
+    assert_eq!(rt; block.add_area(area(0, 16)), Err(AreaFault::AreaOverlap));
+    assert_eq!(rt; block.add_area(area(24, 8)), Ok(()));
+    assert_eq!(rt; block.add_area(area(0, 8)), Ok(()));
+    assert_eq!(rt; block.add_area(area(32, 8)), Err(AreaFault::TooManyAreas));
     for (from, word) in [
         (0, Some(0)),
         (1, Some(1)),
