@@ -8,7 +8,7 @@ use Rattle.km_model.specs.Blocks.{Block, AtLeast, block_of}
 use Rattle.km_model.specs.Past.{world, last_completed, moments_of, end_of}
 use Rattle.km_model.specs.Scan.{next}
 use Rattle.km_model.specs.Verdict.{listing_ids}
-use Rattle.km_model.specs.Follows.{past_of, happens, all_happen}
+use Rattle.km_model.specs.Follows.{past_of, first_run, happens, all_happen}
 use Rattle.km_model.specs.Expansion.{steps}
 use Rattle.km_model.specs.Headline.{IsForgotten, is_unmentioned}
 use Rattle.km_model.specs.Answers.{answer}
@@ -21,7 +21,7 @@ ring =
 
 -- through two scans
 abbrev scanned : History
-scanned = steps 1024 9 (happens 1024 (steps 1024 9 (all_happen 1024 [] ring)) (File Scan))
+scanned = (steps 9 (happens (steps 9 (all_happen (first_run 1024) ring)) (File Scan))).history
 
 completed : last_completed (past_of scanned) ≡ Some 2
 unfolding answer next world_after_act

@@ -11,7 +11,7 @@ use Rattle.km_model.specs.Scan.{next, scan_load, load_of}
 use Rattle.km_model.specs.Answers.{answer}
 use Rattle.km_model.specs.Changes.{world_after_act}
 use Rattle.km_model.specs.Mention.{mentions, is_mentioned}
-use Rattle.km_model.specs.Follows.{FollowsMemory, past_of, told_value}
+use Rattle.km_model.specs.Follows.{FollowsMemory, past_of, run_of, told_value}
 use Rattle.km_model.specs.Headline.{just_forgot}
 use Rattle.km_model.proofs.Cases.{some_same, none_some}
 use Rattle.km_model.proofs.AnswerLaws.{answers_have}
@@ -42,9 +42,9 @@ module _ (words : ℕ) (e : Event) (h : History) (follows : FollowsMemory words 
   -- it loaded the word that stands in the memory
   pub made_value : g.value ≡ word_at (memory_after words h) g.place.word
   made_value =
-      let told : answer words (past_of h) e.act (told_value words h e.act) ≡ Loaded g.address g.value = sym follows.0 ∙ g.answer_is in
-      loaded_value words (past_of h) e.act (told_value words h e.act) g.address g.value told
-      ∙ (ap (λ (x : Act). told_value words h x) g.step
+      let told : answer words (past_of h) e.act (told_value (run_of words h) e.act) ≡ Loaded g.address g.value = sym follows.0 ∙ g.answer_is in
+      loaded_value words (past_of h) e.act (told_value (run_of words h) e.act) g.address g.value told
+      ∙ (ap (λ (x : Act). told_value (run_of words h) x) g.step
       ∙ ap (λ o. elim (elim o as (λ _. Option ℕ) [ None ↦ None | Some p ↦ Some p.word ]) as (λ _. ℕ) [ None ↦ 0 | Some a ↦ word_at (memory_after words h) a ]) g.found)
 
   -- and left the memory and what stands

@@ -80,7 +80,7 @@ core_next c q act given t u i a touches = record {
 pub history_answer : (c : Seen) (q : Parts) (act : Act) (given : Answer) (h : History) (s : State) → IsWhole c.parts → Answers c.parts q act given → Stands c h s → given ≡ answer c.parts.words (past_of h) act (value_of given)
 history_answer c q act given h s w a r = answers_now c q act given h s w a r ∙ answer_stands c.parts.words h s act (value_of given) r.history
 
-one_more : (q : Bool) (n m : ℕ) → n + (if q then 1 else 2) ≤ m → n + 1 ≤ m
+pub one_more : (q : Bool) (n m : ℕ) → n + (if q then 1 else 2) ≤ m → n + 1 ≤ m
 one_more true n m e = e
 one_more false n m e = omega (arith, e)
 

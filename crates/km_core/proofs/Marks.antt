@@ -235,6 +235,10 @@ pub after_dump : (s : State) (a : ℕ) (i : Info) → state_after s (acts.File (
 unfolding changed
 after_dump s a i = quiet s
 
+pub after_why : (s : State) (a : ℕ) → state_after s (acts.File (file.Why a)) Done ≡ counted s
+unfolding changed
+after_why s a = quiet s
+
 pub after_read : (s : State) → state_after s acts.Read Done ≡ counted s
 unfolding changed
 after_read s = quiet s

@@ -12,29 +12,33 @@ use Rattle.km_base.specs.declared.acts.Info.{Info}
 use Rattle.km_base.specs.declared.acts.Refusal.{Refusal}
 use Rattle.km_base.specs.declared.acts.Refusal.TheVariants.{Busy, Disabled, NoObject, NoScanRunning}
 use Rattle.km_model.specs.History.{value_of}
-use Rattle.km_model.specs.Answers.{stop_answer, unless, unless_busy}
-use Rattle.km_model.specs.Blocks.{contains, painted_grey}
+use Rattle.km_model.specs.Answers.{stop_answer, unless, unless_busy, why_answer}
+use Rattle.km_model.specs.Blocks.{block_with, contains, painted_grey}
 use Rattle.km_model.specs.Memory.{in_memory}
 use Rattle.km_model.specs.Past.{Place, is_loaded, is_refused}
 use Rattle.km_model.specs.Placement.{Allocation}
 use Rattle.km_model.specs.Tasks.{Task}
+use Rattle.km_model.specs.World.{World}
 use Rattle.km_model.proofs.Lists.{Each, each_in}
 use Rattle.km_laws.specs.Placed.{InMemory, StackPlaced, WholeWords}
-use Rattle.km_state.specs.State.{State, Scanning, Tracked, is_listed_now, opened, running_of, tracked_where, world_of}
+use Rattle.km_state.specs.State.{State, Scanning, Tracked, blocks_in, is_listed_now, opened, running_of, tracked_where, world_of}
 use Rattle.km_state.specs.StateAnswers.{dump_in, info_in, state_answer, stepped, word_answer}
 use Rattle.km_state.specs.StateAfter.{painted, marked, state_after, changed, word_written}
 use Rattle.km_state.specs.StateNext.{next_in, state_next}
 use Rattle.km_reach.specs.Reached.{IsReached}
 use Rattle.km_scan.specs.Stand.{StackEnds, scanning_of, seen}
 use Rattle.km_scan.specs.declared.sweep.Sweep.{Sweep}
+use Rattle.km_record.specs.declared.kinds.RecId.{RecId}
 use Rattle.km_tasks.specs.Roll.{Roll}
+use Rattle.km_track.specs.Tracker.{Live, Tracker, id_of, live_where}
 use Rattle.km_words.specs.Told.{IsGiven, Told, loaded_in}
 use Rattle.km_hosts.specs.Hosting.{Hold}
 use Rattle.km_objects.specs.Objects.{Agree, AreOf, IfLoaded, Objects, all_dropped, places, scan_begun, scan_stopped}
 use Rattle.km_core.specs.declared.settings.Settings.{Settings}
 use Rattle.km_core.specs.Parts.{Answers, HostsStand, IsReady, IsWhole, Parts, StandsAs, Touches, set_in}
-use Rattle.km_core.specs.Kernels.{is_setting, word_refused}
-use Rattle.km_core.proofs.Marks.{counted, quiet, answer_word, answer_read, answer_tick, answer_automatic, answer_halt, after_off, after_off_stopped, after_begin, after_clear, after_dump, after_read, after_tick, after_automatic, after_skipped, after_halt}
+use Rattle.km_objects.proofs.Changes.{is_found}
+use Rattle.km_core.specs.Kernels.{done_if, is_setting, word_refused}
+use Rattle.km_core.proofs.Marks.{counted, quiet, answer_word, answer_read, answer_tick, answer_automatic, answer_halt, after_off, after_off_stopped, after_begin, after_clear, after_dump, after_why, after_read, after_tick, after_automatic, after_skipped, after_halt}
 use Rattle.km_core.proofs.Standing.{counted_hosts, counted_stands, does, does_objects, enabled_is, over_objects, refused, refused_now, same_objects, with_objects}
 use Rattle.km_core.proofs.NoteActs.{painted_hosts}
 
@@ -68,7 +72,7 @@ no_sweep f (Some w) e = absurd (let z : ⊥ = cc in z)
 idle : (o : Objects) (s : State) → AreOf o s → running_of s ≡ None → o.stand.sweep ≡ None
 idle o s r e = no_sweep (scanning_of o.tracker) o.stand.sweep (sym (no_scan s e) ∙ r.scan)
 
--- words but `off`, `clear` and `dump`
+-- words but `off`, `clear`, `dump` and `why`
 set_word : (s : State) (word : FileCmd) → is_setting word ≡ true → word_answer (world_of s) (running_of s) s.tracked word ≡ unless (not s.enabled) Disabled (unless_busy (running_of s) Done)
 set_word s file.Off e = absurd (let z : ⊥ = cc in z)
 set_word s file.StackOn e = refl
@@ -79,6 +83,7 @@ set_word s (file.ScanEvery n) e = refl
 set_word s file.Scan e = refl
 set_word s file.Clear e = absurd (let z : ⊥ = cc in z)
 set_word s (file.Dump a) e = absurd (let z : ⊥ = cc in z)
+set_word s (file.Why a) e = absurd (let z : ⊥ = cc in z)
 
 pub set_refused : (p : Parts) (word : FileCmd) (r : Refusal) (s : State) → is_setting word ≡ true → word_refused s.enabled (running_of s) ≡ Some r → Refused r ≡ state_answer s (acts.File word) 0
 set_refused p word r s setting e = usual s.enabled (running_of s) Done r e ∙ sym (set_word s word setting) ∙ sym (answer_word s word 0)
@@ -88,6 +93,9 @@ scan_refused r s e = usual s.enabled (running_of s) Done r e ∙ sym (answer_wor
 
 pub dump_refused : (a : ℕ) (r : Refusal) (s : State) → word_refused s.enabled (running_of s) ≡ Some r → Refused r ≡ state_answer s (acts.File (file.Dump a)) 0
 dump_refused a r s e = usual s.enabled (running_of s) (dump_in s.tracked a) r e ∙ sym (answer_word s (file.Dump a) 0)
+
+pub why_refused : (a : ℕ) (r : Refusal) (s : State) → word_refused s.enabled (running_of s) ≡ Some r → Refused r ≡ state_answer s (acts.File (file.Why a)) 0
+why_refused a r s e = usual s.enabled (running_of s) (why_answer (world_of s) a) r e ∙ sym (answer_word s (file.Why a) 0)
 
 after_set : (s : State) (word : FileCmd) → is_setting word ≡ true → state_after s (acts.File word) Done ≡ word_written (counted s) word
 unfolding changed
@@ -100,6 +108,7 @@ after_set s (file.ScanEvery n) e = ap (λ (x : State). word_written x (file.Scan
 after_set s file.Scan e = absurd (let z : ⊥ = cc in z)
 after_set s file.Clear e = absurd (let z : ⊥ = cc in z)
 after_set s (file.Dump a) e = absurd (let z : ⊥ = cc in z)
+after_set s (file.Why a) e = absurd (let z : ⊥ = cc in z)
 
 -- two states that differ in what is set alone
 record SetAside (s t : State) : Type 0 where
@@ -132,6 +141,7 @@ aside s file.Off e = absurd (let z : ⊥ = cc in z)
 aside s file.Scan e = absurd (let z : ⊥ = cc in z)
 aside s file.Clear e = absurd (let z : ⊥ = cc in z)
 aside s (file.Dump a) e = absurd (let z : ⊥ = cc in z)
+aside s (file.Why a) e = absurd (let z : ⊥ = cc in z)
 
 aside_stands : (p : Parts) (q : Settings) (s t : State) → StandsAs p s → SetAside s t → set_in t ≡ q → p.objects.stand.sweep ≡ None → StandsAs (record p { settings = q }) t
 aside_stands p q s t stands a set none = record {
@@ -205,9 +215,6 @@ stopped (Some k) = Stopped k
 stopped_is : (o : Option ℕ) → stop_answer o Done ≡ stopped o
 stopped_is None = refl
 stopped_is (Some k) = refl
-
-off_settings : Settings → Settings
-off_settings q = record q { enabled = false; due = None }
 
 off_stands : (p : Parts) (o : Objects) (s : State) → HostsStand p s → AreOf o (scan_stopped s) → HostsStand (record p { objects = o; settings = record p.settings { enabled = false; due = None } }) (record (scan_stopped s) { enabled = false; due = None })
 off_stands p o s r of = record {
@@ -337,6 +344,31 @@ dump_answers p a (Some i) w passes found =
 pub quietly_shown : (a : ℕ) (found : Option Info) (t : Told) → Touches (acts.File (file.Dump a)) (shown found) t t
 quietly_shown a None t = refl
 quietly_shown a (Some i) t = refl
+
+-- whether a look at the tracker finds the block that contains an address
+pub looked : (o : Objects) (s : State) (a : ℕ) (t : Tracker) (found : Option RecId) → found ≡ option_map id_of (live_where (contains a) t) → t ≡ o.tracker → AreOf o s
+    → is_some found ≡ is_some (block_with (blocks_in s.tracked) a)
+looked o s a t found is same of =
+    ap (λ (f : Option RecId). is_some f) (is ∙ ap (λ (x : Tracker). option_map id_of (live_where (contains a) x)) same)
+    ∙ mapped (live_where (contains a) o.tracker)
+    ∙ is_found (contains a) o o.tracker o.stand s refl of
+  where
+    mapped : (x : Option Live) → is_some (option_map id_of x) ≡ is_some x
+    mapped None = refl
+    mapped (Some l) = refl
+
+why_is : (w : World) (a : ℕ) → why_answer w a ≡ done_if (is_some (block_with w.blocks a))
+why_is w a = elim (block_with w.blocks a) as (λ o. (elim o as (λ _. Answer) [ None ↦ Refused NoObject | Some _ ↦ Done ]) ≡ done_if (is_some o)) [ None ↦ refl | Some b ↦ refl ]
+
+pub why_answers : (p : Parts) (a : ℕ) (there : Bool) → IsWhole p → ((s : State) → StandsAs p s → word_refused s.enabled (running_of s) ≡ None)
+    → ((s : State) → AreOf p.objects s → there ≡ is_some (block_with (blocks_in s.tracked) a)) → Answers p p (acts.File (file.Why a)) (done_if there)
+why_answers p a false w passes there =
+    refused_now p (acts.File (file.Why a)) NoObject w refl
+    (λ s stands reached. sym (answer_word s (file.Why a) 0 ∙ passed s.enabled (running_of s) (why_answer (world_of s) a) (passes s stands) ∙ why_is (world_of s) a ∙ ap done_if (sym (there s stands.objects))))
+why_answers p a true w passes there =
+    does p p (acts.File (file.Why a)) Done (λ x. x) w refl (omega arith)
+    (λ s stands reached. sym (answer_word s (file.Why a) 0 ∙ passed s.enabled (running_of s) (why_answer (world_of s) a) (passes s stands) ∙ why_is (world_of s) a ∙ ap done_if (sym (there s stands.objects))))
+    (λ s stands reached. after_why s a) (λ s stands reached. counted_hosts p s stands.hosts) (λ s stands reached. (counted_stands p s stands).objects) refl refl
 
 -- the stacks of the tasks end in the memory
 stacks_end : (s : State) (ts : List Task) → IsReached s → Each (StackPlaced s.used) ts → All StackEnds ts

@@ -1,7 +1,7 @@
 -- Small words of the kernel's calls.
 use Rattle.std.specs.Prelude.{ℕ, Bool, true, false, Option, Some, None, if◌then◌else◌}
 use Rattle.km_base.specs.declared.acts.FileCmd.{FileCmd}
-use Rattle.km_base.specs.declared.acts.FileCmd.TheVariants.{Off, Scan, Clear, Dump}
+use Rattle.km_base.specs.declared.acts.FileCmd.TheVariants.{Off, Scan, Clear, Dump, Why}
 use Rattle.km_base.specs.declared.acts.Answer.{Answer}
 use Rattle.km_base.specs.declared.acts.Answer.TheVariants.{Done, Refused}
 use Rattle.km_base.specs.declared.acts.Refusal.{Refusal}
@@ -13,6 +13,7 @@ is_setting Off = false
 is_setting Scan = false
 is_setting Clear = false
 is_setting (Dump _) = false
+is_setting (Why _) = false
 is_setting _ = true
 
 -- why a word is refused

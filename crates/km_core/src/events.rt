@@ -126,6 +126,13 @@ impl<M: ObjectMap> Core<M> {
         self.kernel.enabled()
     }
 
+    /// Whether the words of stacks are scanned.
+    pub fn stacks(&self) -> bool
+        ensures { result ≡ self.now.parts.settings.stacks }
+    {
+        self.kernel.stacks()
+    }
+
     /// The live blocks.
     pub fn track(&self) -> &Track<M>
         ensures { result.now ≡ self.now.parts.objects.tracker }

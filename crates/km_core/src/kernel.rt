@@ -18,6 +18,7 @@ ghost use Rattle.km_words.specs.Told.{Told};
 ghost use Rattle.km_core.specs.Parts.{Answers, HasPlace, IsReady, IsWhole, StandsAs, Touches, set_in};
 
 use crate::settings::Settings;
+use km_base::sizes::{MOST_WORDS, PAGE_WORDS};
 use km_base::{Act, Addr, Answer, FileCmd, Name, NoMemory, Refusal, Reg, Span};
 use km_hosts::Hosts;
 use km_map::ObjectMap;
@@ -31,11 +32,8 @@ use km_words::{Words, in_memory};
 use std::alloc::Global;
 use std::marker::Model;
 
-/// The words of a page.
-const PAGE_WORDS: u64 = 512;
-
 /// The bytes of the largest memory.
-const MOST_BYTES: u64 = 33_554_432;
+const MOST_BYTES: u64 = 8 * MOST_WORDS;
 
 /// The hosts of a memory, the live blocks with their scanner, and what is set.
 #[derive(Drop)]
@@ -402,6 +400,18 @@ impl<M: ObjectMap> Kernel<M> {
         }
     }
 
+    /// Whether a block has a byte, so that it can be asked why the block is held.
+    fn why(&mut self, a: u64) -> Answer
+        requires ready { IsReady self.old }
+        ensures answers { Answers self.old self.new (acts.File (file.Why a)) result }
+        ensures quiet { (t : Told) → Touches (acts.File (file.Why a)) result t t }
+    {
+        if let Some(refusal) = self.refused_word() {
+            return Answer::Refused(refusal);
+        }
+        done_where(self.objects.track().look(Addr(a)).is_some())
+    }
+
     /// Why a word is refused: `off` was written, or a scan is running.
     fn refused_word(&self) -> Option<Refusal>
         ensures { (s : State) → StandsAs self.now s → result ≡ word_refused s.enabled (running_of s) }
@@ -452,6 +462,7 @@ impl<M: ObjectMap> Kernel<M> {
             FileCmd::Off => self.off(),
             FileCmd::Clear => self.clear(),
             FileCmd::Dump(a) => self.dump(a),
+            FileCmd::Why(a) => self.why(a),
             FileCmd::Scan => self.begin(),
             _ => self.set(word),
         }
@@ -570,6 +581,13 @@ impl<M: ObjectMap> Kernel<M> {
             Act::Step => self.step(words),
             Act::Halt => self.halt(),
         }
+    }
+
+    /// Whether the words of stacks are scanned.
+    pub fn stacks(&self) -> bool
+        ensures { result ≡ self.now.settings.stacks }
+    {
+        self.settings.stacks
     }
 
     /// How many words of memory there are.

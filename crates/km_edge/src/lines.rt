@@ -7,10 +7,8 @@ ghost use Rattle.km_edge.specs.Lines.{is_line_feed, next_at, seen};
 
 use crate::errors::Failed;
 use crate::streams::Source;
+use km_base::sizes::LONGEST_LINE;
 use std::marker::Model;
-
-/// The most bytes that a line has, without its line feed.
-const LINE: usize = 256;
 
 /// What comes next in the buffer.
 #[derive(Clone, Copy, Debug)]
@@ -77,7 +75,7 @@ impl Lines {
         ensures { seen result ≡ next_of ended self.now }
     {
         let held = self.held();
-        let feed = first_feed(&held[..held.len().min(LINE + 1)]);
+        let feed = first_feed(&held[..held.len().min(LONGEST_LINE + 1)]);
         cut_at(held, feed, ended)
     }
 
@@ -128,7 +126,7 @@ fn cut_at(held: &[u8], feed: Option<usize>, ended: bool) -> Cut<'_>
 {
     match feed {
         Some(i) => Cut::Line(&held[..i]),
-        None if held.len() > LINE => Cut::Long,
+        None if held.len() > LONGEST_LINE => Cut::Long,
         None if ended && !held.is_empty() => Cut::Line(held),
         None => Cut::More,
     }

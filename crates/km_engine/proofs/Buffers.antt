@@ -1,8 +1,8 @@
 -- Running what a buffer holds.
 use Rattle.std.proofs.Common.{◌≡◌, ℕ, ◌+◌, List, [], ◌∷◌, ◌++◌, length, drop, Ok, ap, sym, ◌∙◌, refl, append_assoc}
-use Rattle.km_model.specs.declared.lines.Line.{Line}
-use Rattle.km_model.specs.declared.status.Status.{Status}
-use Rattle.km_model.specs.declared.status.Status.TheVariants as status
+use Rattle.km_base.specs.declared.lines.Line.{Line}
+use Rattle.km_base.specs.declared.status.Status.{Status}
+use Rattle.km_base.specs.declared.status.Status.TheVariants as status
 use Rattle.km_model.specs.Grammar.{line_of}
 use Rattle.km_model.specs.Output.{is_fresh}
 use Rattle.km_edge.specs.Streams.{SinkState}

@@ -1,10 +1,10 @@
 -- How a run ends, from how its parts do.
 use Rattle.std.proofs.Common.{◌≡◌, ℕ, ◌+◌, ◌≤◌, true, List, [], ◌∷◌, ◌++◌, length, take, drop, Option, Ok, refl, ap, sym, subst, ◌∙◌, arith, append_assoc, length-append}
 use Rattle.std.proofs.lemmas.List.{append-nil, take-append-drop}
-use Rattle.km_model.specs.declared.status.Status.{Status}
-use Rattle.km_model.specs.declared.status.Status.TheVariants as status
-use Rattle.km_model.specs.declared.lines.Command.TheVariants.{Memory}
-use Rattle.km_model.specs.declared.lines.Line.TheVariants as line
+use Rattle.km_base.specs.declared.status.Status.{Status}
+use Rattle.km_base.specs.declared.status.Status.TheVariants as status
+use Rattle.km_base.specs.declared.lines.Command.TheVariants.{Memory}
+use Rattle.km_base.specs.declared.lines.Line.TheVariants as line
 use Rattle.km_model.specs.Grammar.{rules, line_of}
 use Rattle.km_model.specs.Output.{Script, Fresh, Begun, Prints, IsRun, is_empty, is_fresh, limit, lines_of, end_of_script, status_from, status_then, status_of}
 use Rattle.km_model.specs.Text.{not_a_command_text}
@@ -50,7 +50,7 @@ ends_within taken front written text n lines behind p end k k' k'' ran wrote cut
 
 fresh_is : (s : Script) → is_fresh s ≡ true → s ≡ Fresh
 fresh_is Fresh e = refl
-fresh_is (Begun words h) e = absurd (cc)
+fresh_is (Begun run) e = absurd (cc)
 
 -- no command and no refused line is among lines that leave a script fresh
 blank_lines : (front written : List ℕ) (p : Place) (ran : RanFrom first_place front written p) → is_fresh p.script ≡ true → Prints Fresh 1 ran.lines Fresh []

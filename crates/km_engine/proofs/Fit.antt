@@ -4,12 +4,12 @@ use Rattle.std.proofs.lemmas.Bool.Decides.{nat_tests}
 use Rattle.std.specs.Bool.{Decides}
 use Rattle.std.proofs.lemmas.Slice.Eq.{bytes_eq-Decides}
 use Rattle.km_base.specs.Names.{name_of}
-use Rattle.km_model.specs.declared.lines.Command.{Command}
-use Rattle.km_model.specs.declared.lines.Command.TheVariants as command
-use Rattle.km_model.specs.declared.lines.RegName.{RegName}
-use Rattle.km_model.specs.declared.lines.Line.{Line}
-use Rattle.km_model.specs.declared.lines.Line.TheVariants as line
-use Rattle.km_model.specs.declared.lines.NotACommand.{NotACommand as Refused}
+use Rattle.km_base.specs.declared.lines.Command.{Command}
+use Rattle.km_base.specs.declared.lines.Command.TheVariants as command
+use Rattle.km_base.specs.declared.lines.RegName.{RegName}
+use Rattle.km_base.specs.declared.lines.Line.{Line}
+use Rattle.km_base.specs.declared.lines.Line.TheVariants as line
+use Rattle.km_base.specs.declared.lines.NotACommand.{NotACommand as Refused}
 use Rattle.km_model.specs.Pieces.{Piece, pieces, pieces_from, put_byte, goes_on, is_blank}
 use Rattle.km_model.specs.Grammar.{Rule, Reading, rules, number, within, number_within, multiple_of, memory_size, register_of, operand, file_command, any_word, as_line, at_end, refused_at, then_word, one_word, two_words, may_name_register, allocation, apply_rule, words_read, line_by, line_of, is_comment, is_foreign}
 use Rattle.km_model.specs.Held.{same_bool}

@@ -2,30 +2,31 @@
 use Rattle.std.proofs.Common.{◌≡◌, ℕ, ◌+◌, List, [], ◌∷◌, ◌++◌, Ok, Err, refl, sym, subst}
 use Rattle.km_converse.proofs.ToldLaw.{forgotten_are_listed}
 use Rattle.km_laws.proofs.NotHeld.{listed_are_not_held}
-use Rattle.km_model.specs.declared.lines.Command.{Command}
-use Rattle.km_model.specs.declared.lines.Command.TheVariants.{Memory}
-use Rattle.km_model.specs.declared.lines.Line.{Line}
-use Rattle.km_model.specs.declared.lines.Line.TheVariants as line
+use Rattle.km_base.specs.declared.lines.Command.{Command}
+use Rattle.km_base.specs.declared.lines.Command.TheVariants.{Memory}
+use Rattle.km_base.specs.declared.lines.Line.{Line}
+use Rattle.km_base.specs.declared.lines.Line.TheVariants as line
 use Rattle.km_model.specs.History.{History}
-use Rattle.km_model.specs.Follows.{FollowsMemory}
+use Rattle.km_model.specs.Follows.{FollowsMemory, HasOwnWords}
 use Rattle.km_model.specs.Grammar.{line_of}
 use Rattle.km_model.specs.Headline.{IsMemorySize}
 use Rattle.km_model.specs.Output.{Script, Fresh, Begun, Leads, LeadsLine, LineThen, Prints, is_fresh}
-use Rattle.km_model.proofs.FollowLaws.{makes_follows}
+use Rattle.km_model.proofs.FollowLaws.{makes_own, makes_words}
 use Rattle.km_model.proofs.VerdictLaws.{listed_are_live, new_at_most_once}
 use Rattle.km_engine.specs.Headline.{Headline}
 use Rattle.km_engine.specs.Steps.{IsFit, IsFitLine}
 use Rattle.km_engine.proofs.Fit.{read_is_fit}
 
--- a script that has begun has a memory, and its history follows it
+-- a script that has begun has a memory, whose words hold what its history stored
 abbrev pub IsSound : Script → Type 0
 IsSound Fresh = Unit {0}
-IsSound (Begun words h) = IsMemorySize words × FollowsMemory words h
+IsSound (Begun run) = IsMemorySize run.words × HasOwnWords run
 
 leads_sound : (m : Script) (c : Command) (next : Script) (text : List ℕ) → IsFit (is_fresh m) c → Leads m c next text → IsSound m → IsSound next
-leads_sound Fresh (Memory words) next text fit p sound = subst IsSound (sym p.0) (fit, tt)
+leads_sound Fresh (Memory words) next text fit p sound = subst IsSound (sym p.0) (fit, record { memory = refl; follows = tt })
 leads_sound Fresh _ next text fit p sound = absurd p
-leads_sound (Begun words h) c next text fit p sound = subst IsSound (sym p.2) (sound.0, makes_follows words h c p.0 p.1 sound.1)
+leads_sound (Begun run) c next text fit p sound =
+    subst IsSound (sym p.2) (subst IsMemorySize (sym (makes_words run c p.0 p.1)) sound.0, makes_own run c p.0 p.1 sound.1)
 
 pub line_sound : (m : Script) (l : Line) (next : Script) (text : List ℕ) → IsFitLine (is_fresh m) l → LeadsLine m l next text → IsSound m → IsSound next
 line_sound m line.Blank next text fit p sound = subst IsSound (sym p.0) sound
@@ -46,7 +47,10 @@ followed words (e ∷ later) before f = followed words later before f.1
 
 pub headline : (lines : List (List ℕ)) → Headline lines
 headline lines = record {
-  applies = λ words later before out p. let sound = prints_sound lines Fresh 1 (Begun words (later ++ before)) out p tt in (sound.0, followed words later before sound.1);
+  own_words = λ run out p. (prints_sound lines Fresh 1 (Begun run) out p tt).1;
+  applies = λ run later before out p parts.
+      let sound = prints_sound lines Fresh 1 (Begun run) out p tt in
+      (sound.0, followed run.words later before (subst (FollowsMemory run.words) parts sound.1.follows));
   listed_are_not_held = listed_are_not_held;
   forgotten_are_listed = forgotten_are_listed;
   listed_are_live = listed_are_live;

@@ -7,11 +7,11 @@ use Rattle.km_model.specs.Output.{Script, Fresh, Begun}
 use Rattle.km_record.specs.declared.kinds.RecId.{RecId}
 use Rattle.km_scan.proofs.Held.{found_any}
 use Rattle.km_state.specs.State.{Tracked, blocks_in, is_listed_now, listing_in}
-use Rattle.km_state.specs.StandsFor.{StandsFor}
 use Rattle.km_state.proofs.StandsLaws.{listing_stands}
 use Rattle.km_track.specs.Tracker.{AreRising, Live, Tracker, id_of, is_id, is_live, tracked_in}
-use Rattle.km_track.proofs.Lives.{finds_it, has_its, not_before}
+use Rattle.km_track.proofs.Lives.{finds_it}
 use Rattle.km_verdict.specs.Listing.{behind, listed_in}
+use Rattle.km_verdict.proofs.Listings.{behind_its}
 use Rattle.km_machine.specs.declared.machine.Machine.{Machine}
 use Rattle.km_engine.specs.Bench.{listed_at}
 use Rattle.km_engine.specs.Session.{HasLed}
@@ -49,11 +49,6 @@ none_listed (l ∷ ls) e =
       | true ↦ λ f. absurd (let z : ⊥ = cc in z)
       | false ↦ λ f. none_listed ls f
     ] e
-
--- what is registered behind a block among the live ones
-behind_its : (low high : ℕ) (front more : List Live) (l : Live) → AreRising low (front ++ l ∷ more) high → behind (id_of l) (front ++ l ∷ more) ≡ more
-behind_its low high [] more l r = rw (has_its l) refl
-behind_its low high (x ∷ front) more l r = rw (not_before low high x l front more r) (behind_its (x.tracked.block.id + 1) high front more l r.1)
 
 -- a walk over the listed blocks: what it has passed by and the rest, and how many it has counted
 pub record Counting (t : Tracker) (next : Option RecId) (count : ℕ) : Type 0 where
@@ -129,8 +124,7 @@ counting_ends t next count w e = omega (arith, w.counted, none_listed w.rest (sy
 pub listed_stands : (machine : Option Machine) (led : Script) (m : Machine) (count : ℕ) → machine ≡ Some m → HasLed machine led → count ≡ length (listing_in (tracked_in m.core.parts.objects.tracker)) → count ≡ listed_at led
 listed_stands None led m count is has e = absurd (let z : ⊥ = cc in z)
 listed_stands (Some x) Fresh m count is has e = absurd has
-listed_stands (Some x) (Begun words h) m count is has e =
+listed_stands (Some x) (Begun run) m count is has e =
     let same : m ≡ x = cc in
-    let f = has.1 in
     e ∙ ap (λ (y : Machine). length (listing_in (tracked_in y.core.parts.objects.tracker))) same
-    ∙ ap length (sym (ap listing_in f.stands.parts.objects.tracked) ∙ listing_stands words h f.state (subst (λ w. StandsFor w h f.state) (sym has.0) f.stands.history))
+    ∙ ap length (sym (ap listing_in has.stands.parts.objects.tracked) ∙ listing_stands x.core.parts.words run.history has.state has.stands.history)

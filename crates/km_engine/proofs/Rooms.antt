@@ -1,7 +1,7 @@
 -- How much room the lines of a script take.
 use Rattle.std.proofs.Common.{◌≡◌, ℕ, ◌+◌, ◌≤◌, is_none, List, length, Option, Some, None, Ok, sym, subst, ◌∙◌, arith}
-use Rattle.km_model.specs.declared.lines.Line.{Line}
-use Rattle.km_model.specs.declared.lines.Line.TheVariants as line
+use Rattle.km_base.specs.declared.lines.Line.{Line}
+use Rattle.km_base.specs.declared.lines.Line.TheVariants as line
 use Rattle.km_model.specs.Grammar.{line_of}
 use Rattle.km_machine.specs.declared.machine.Machine.{Machine}
 use Rattle.km_engine.specs.Session.{Session, HasRoomFor, HasRoomToRun, SpendsOn}

@@ -1,11 +1,11 @@
 -- Running lines one after another.
 use Rattle.std.proofs.Common.{◌≡◌, ℕ, ◌+◌, Bool, true, false, List, [], ◌∷◌, ◌++◌, Ok, Err, refl, ap, sym, subst, ◌∙◌, arith, append_assoc, length-append}
-use Rattle.km_model.specs.declared.lines.Command.{Command}
-use Rattle.km_model.specs.declared.lines.Command.TheVariants.{Memory}
-use Rattle.km_model.specs.declared.lines.Line.{Line}
-use Rattle.km_model.specs.declared.lines.Line.TheVariants as line
-use Rattle.km_model.specs.declared.lines.NotACommand.{NotACommand as Refused}
-use Rattle.km_model.specs.declared.status.Status.{Status}
+use Rattle.km_base.specs.declared.lines.Command.{Command}
+use Rattle.km_base.specs.declared.lines.Command.TheVariants.{Memory}
+use Rattle.km_base.specs.declared.lines.Line.{Line}
+use Rattle.km_base.specs.declared.lines.Line.TheVariants as line
+use Rattle.km_base.specs.declared.lines.NotACommand.{NotACommand as Refused}
+use Rattle.km_base.specs.declared.status.Status.{Status}
 use Rattle.km_model.specs.Grammar.{rules, line_of}
 use Rattle.km_model.specs.Output.{Script, Fresh, Begun, Leads, LeadsLine, LineThen, Prints, is_fresh, status_from, status_then}
 use Rattle.km_model.specs.Text.{not_a_command_text}
@@ -72,7 +72,7 @@ ends_from p q front written rest dropped otherwise ran =
 leads_begun : (m : Script) (c : Command) (next : Script) (text : List ℕ) → Leads m c next text → is_fresh next ≡ false
 leads_begun Fresh (Memory words) next text p = ap is_fresh p.0
 leads_begun Fresh _ next text p = absurd p
-leads_begun (Begun words h) c next text p = ap is_fresh p.2
+leads_begun (Begun run) c next text p = ap is_fresh p.2
 
 -- a status behind a line that was run
 status_on : (m : Script) (n : ℕ) (l : Line) (next : Script) (text : List ℕ) (rest : Bool → Status) → LeadsLine m l next text

@@ -6,8 +6,8 @@ use Rattle.km_edge.specs.Memory.{count_state}
 use Rattle.km_edge.specs.Streams.{SinkState, Counts, Rose, greatest}
 use Rattle.km_forms.specs.declared.words.Form.TheVariants.{Bench}
 use Rattle.km_gen.specs.Generated.{generated_script}
-use Rattle.km_model.specs.declared.status.Status.{Status}
-use Rattle.km_model.specs.declared.status.Status.TheVariants as status
+use Rattle.km_base.specs.declared.status.Status.{Status}
+use Rattle.km_base.specs.declared.status.Status.TheVariants as status
 use Rattle.km_model.specs.Output.{Script, IsRun, limit}
 use Rattle.km_machine.specs.declared.machine.Machine.{Machine}
 use Rattle.km_engine.specs.Bench.{BenchEnds, SumsUp, held_state, listed_at}

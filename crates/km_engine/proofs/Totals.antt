@@ -10,13 +10,13 @@ use Rattle.km_laws.specs.Laws.{goes_on}
 use Rattle.km_laws.specs.Left.{left}
 use Rattle.km_laws.proofs.Laws.{loads_lower}
 use Rattle.km_laws.proofs.Since.{memory_answered}
-use Rattle.km_model.specs.declared.lines.Command.{Command}
-use Rattle.km_model.specs.declared.lines.Command.TheVariants.{Memory, Write, Finish, Tick, Step}
-use Rattle.km_model.specs.declared.lines.Line.{Line}
-use Rattle.km_model.specs.declared.lines.Line.TheVariants as line
+use Rattle.km_base.specs.declared.lines.Command.{Command}
+use Rattle.km_base.specs.declared.lines.Command.TheVariants.{Memory, Write, Finish, Tick, Step}
+use Rattle.km_base.specs.declared.lines.Line.{Line}
+use Rattle.km_base.specs.declared.lines.Line.TheVariants as line
 use Rattle.km_model.specs.Answers.{answer, step_answer}
-use Rattle.km_model.specs.Expansion.{steps, Finishes, ScansIfBegun, TicksOver, Makes, behind_line, due_by, history_at, is_idle, newest_is_done, world_after}
-use Rattle.km_model.specs.Follows.{FollowsMemory, happens, past_of, told_answer, told_value}
+use Rattle.km_model.specs.Expansion.{steps, Finishes, ScansIfBegun, TicksOver, Makes, behind_line, due_by, run_at, is_idle, newest_is_done, world_after}
+use Rattle.km_model.specs.Follows.{Run, HasOwnWords, first_run, happens, past_of, told_answer, told_value}
 use Rattle.km_model.specs.Grammar.{line_of}
 use Rattle.km_model.specs.History.{History}
 use Rattle.km_model.specs.Output.{Script, Fresh, Begun, LeadsLine, LineThen, Prints, IsOut, is_fresh, line_text, lines_of}
@@ -24,7 +24,8 @@ use Rattle.km_model.specs.Past.{Place, is_loaded, last_load, running_scan, scans
 use Rattle.km_model.specs.Scan.{next}
 use Rattle.km_model.specs.Text.{not_a_command_text}
 use Rattle.km_model.specs.Verdict.{new_blocks}
-use Rattle.km_model.proofs.FollowLaws.{steps_follow}
+use Rattle.km_model.proofs.FollowLaws.{happens_own, scans_keep}
+use Rattle.km_core.proofs.Cores.{one_more}
 use Rattle.km_engine.specs.Steps.{IsFitLine}
 use Rattle.km_engine.proofs.Fit.{read_is_fit}
 use Rattle.km_engine.proofs.Histories.{IsSound, line_sound}
@@ -35,10 +36,6 @@ abbrev Falls : History → Answer → Type 0
 Falls h a =
     (is_loaded a ≡ true → left (past_of (record { act = act.Step; answer = a } ∷ h)) + 1 ≤ left (past_of h))
     × (is_loaded a ≡ false → IsTrue (is_idle (record { act = act.Step; answer = a } ∷ h)))
-
-one_more : (q : Bool) (n m : ℕ) → n + (if q then 1 else 2) ≤ m → n + 1 ≤ m
-one_more true n m e = e
-one_more false n m e = omega (arith, e)
 
 step_falls : (words : ℕ) (h : History) (value : ℕ) → Falls h (answer words (past_of h) act.Step value)
 unfolding answer
@@ -54,26 +51,26 @@ step_falls words h value =
         λ d. absurd (let z : ⊥ = cc in z),
       )
 
-step_once : (words n : ℕ) (h : History) (q : Bool) → is_loaded (told_answer words h act.Step) ≡ q
-    → steps words (suc n) h ≡ (elim q as (λ _. History) [ true ↦ steps words n (happens words h act.Step) | false ↦ happens words h act.Step ])
-step_once words n h q e = ap (λ q. elim q as (λ _. History) [ true ↦ steps words n (happens words h act.Step) | false ↦ happens words h act.Step ]) e
+step_once : (n : ℕ) (run : Run) (q : Bool) → is_loaded (told_answer run act.Step) ≡ q
+    → steps (suc n) run ≡ (elim q as (λ _. Run) [ true ↦ steps n (happens run act.Step) | false ↦ happens run act.Step ])
+step_once n run q e = ap (λ q. elim q as (λ _. Run) [ true ↦ steps n (happens run act.Step) | false ↦ happens run act.Step ]) e
 
 -- a scan ends
-finishes : (words fuel : ℕ) (h : History) → left (past_of h) ≤ fuel → (h' : History) × Finishes words h h'
-finishes words zero h few = absurd (omega (arith, few))
-finishes words (suc fuel) h few =
-    let falls = step_falls words h (told_value words h act.Step) in
-    elim (is_loaded (told_answer words h act.Step)) as (λ q. is_loaded (told_answer words h act.Step) ≡ q → (h' : History) × Finishes words h h') [
+finishes : (fuel : ℕ) (run : Run) → left (past_of run.history) ≤ fuel → (run' : Run) × Finishes run run'
+finishes zero run few = absurd (omega (arith, few))
+finishes (suc fuel) run few =
+    let falls = step_falls run.words run.history (told_value run act.Step) in
+    elim (is_loaded (told_answer run act.Step)) as (λ q. is_loaded (told_answer run act.Step) ≡ q → (run' : Run) × Finishes run run') [
       | true ↦ λ e.
           let less = falls.0 e in
-          let rest = finishes words fuel (happens words h act.Step) (omega (arith, less, few)) in
-          (rest.0, (suc rest.1.0, step_once words (suc rest.1.0) h true e ∙ rest.1.1, rest.1.2))
-      | false ↦ λ e. (happens words h act.Step, (0, step_once words 0 h false e, falls.1 e))
+          let rest = finishes fuel (happens run act.Step) (omega (arith, less, few)) in
+          (rest.0, (suc rest.1.0, step_once (suc rest.1.0) run true e ∙ rest.1.1, rest.1.2))
+      | false ↦ λ e. (happens run act.Step, (0, step_once 0 run false e, falls.1 e))
     ] refl
 
-scans_end : (words : ℕ) (h : History) → (h' : History) × ScansIfBegun words h h'
-scans_end words h =
-    elim (newest_is_done h) as (λ q. (h' : History) × MatchBool q (Finishes words h h') (h ≡ h')) [ true ↦ finishes words (left (past_of h)) h (omega arith) | false ↦ (h, refl) ]
+scans_end : (run : Run) → (run' : Run) × ScansIfBegun run run'
+scans_end run =
+    elim (newest_is_done run.history) as (λ q. (run' : Run) × MatchBool q (Finishes run run') (run ≡ run')) [ true ↦ finishes (left (past_of run.history)) run (omega arith) | false ↦ (run, refl) ]
 
 due_within : (target : ℕ) (o : Option ℕ) (due : ℕ) → (elim o as (λ _. Option ℕ) [ None ↦ None | Some m ↦ if nat_le m target then Some m else None ]) ≡ Some due
     → (o ≡ Some due) × (due ≤ target)
@@ -84,57 +81,51 @@ due_within target (Some m) due e = by_test (nat_le m target) refl e
     by_test true t e = let same : m ≡ due = cc in let within : m ≤ target = grind (arith, nat_tests) in (e, omega (arith, same, within))
     by_test false t e = absurd (let z : ⊥ = cc in z)
 
-scan_follows : (words : ℕ) (h x : History) → ScansIfBegun words h x → FollowsMemory words h → FollowsMemory words x
-scan_follows words h x a f =
-    elim (newest_is_done h) as (λ q. MatchBool q (Finishes words h x) (h ≡ x) → FollowsMemory words x) [
-      | true ↦ λ c. subst (λ g. FollowsMemory words g) c.1 (steps_follow words (suc c.0) h f)
-      | false ↦ λ c. subst (λ g. FollowsMemory words g) c f
-    ] a
-
 -- time moves to its target: each automatic scan is a second behind the last at least
-abbrev Reaches : ℕ → ℕ → History → Type 0
-Reaches words target h = (h' : History) × ((n : ℕ) × TicksOver words target n h h')
+abbrev Reaches : ℕ → Run → Type 0
+Reaches target run = (run' : Run) × ((n : ℕ) × TicksOver target n run run')
 
-ticks : (words target fuel : ℕ) (h : History) → FollowsMemory words h → ((m : ℕ) → (world_after h).due ≡ Some m → target < m + 1000 * fuel) → Reaches words target h
-ticks words target zero h follows far =
-    elim (due_by target (world_after h)) as (λ o. due_by target (world_after h) ≡ o → Reaches words target h) [
-      | None ↦ λ e. (history_at words h target, (0, (ap is_none e, refl)))
+ticks : (target fuel : ℕ) (run : Run) → HasOwnWords run → ((m : ℕ) → (world_after run.history).due ≡ Some m → target < m + 1000 * fuel) → Reaches target run
+ticks target zero run own far =
+    elim (due_by target (world_after run.history)) as (λ o. due_by target (world_after run.history) ≡ o → Reaches target run) [
+      | None ↦ λ e. (run_at run target, (0, (ap is_none e, refl)))
       | Some m ↦ λ e.
-          let due = due_within target (world_after h).due m e in
+          let due = due_within target (world_after run.history).due m e in
           let within = due.1 in
           let beyond = far m due.0 in
           absurd (omega (arith, beyond, within))
     ] refl
-ticks words target (suc fuel) h follows far =
-    elim (due_by target (world_after h)) as (λ o. due_by target (world_after h) ≡ o → Reaches words target h) [
-      | None ↦ λ e. (history_at words h target, (0, (ap is_none e, refl)))
+ticks target (suc fuel) run own far =
+    elim (due_by target (world_after run.history)) as (λ o. due_by target (world_after run.history) ≡ o → Reaches target run) [
+      | None ↦ λ e. (run_at run target, (0, (ap is_none e, refl)))
       | Some m ↦ λ e.
-          let due = due_within target (world_after h).due m e in
+          let due = due_within target (world_after run.history).due m e in
           let beyond = far m due.0 in
-          let begun = happens words (history_at words h m) act.AutoBegin in
-          let scan = scans_end words begun in
-          let pace = scan_paced words h scan.0 m (memory_answered words h follows) due.0 scan.1 in
+          let moved = run_at run m in
+          let begun = happens moved act.AutoBegin in
+          let scan = scans_end begun in
+          let pace = scan_paced run scan.0 m (memory_answered run.words run.history own.follows) due.0 scan.1 in
           let now = pace.now in
-          let rest =
-          ticks words target fuel scan.0 (scan_follows words begun scan.0 scan.1 (refl, (refl, follows))) (λ k is. let later = pace.next k is in omega (arith, beyond, now, later)) in
+          let own_behind = scans_keep HasOwnWords happens_own begun scan.0 scan.1 (happens_own moved act.AutoBegin (happens_own run _ own)) in
+          let rest = ticks target fuel scan.0 own_behind (λ k is. let later = pace.next k is in omega (arith, beyond, now, later)) in
           (rest.0, (suc rest.1.0, (m, e, scan.0, scan.1, rest.1.1)))
     ] refl
 
--- a line leads to a history
-makes : (words : ℕ) (h : History) (c : Command) → FollowsMemory words h → (h' : History) × Makes words h c h'
-makes words h (Write (Some file.Scan)) follows = scans_end words (happens words h (act.File file.Scan))
-makes words h (Step n) follows = (steps words n h, refl)
-makes words h Finish follows = finishes words (left (past_of h)) h (omega arith)
-makes words h (Tick n) follows =
-    let target = (world_after h).now + n in ticks words target (suc target) h follows (λ m is. omega arith)
-makes words h c follows = (behind_line words h c, refl)
+-- a line leads to a run
+makes : (run : Run) (c : Command) → HasOwnWords run → (run' : Run) × Makes run c run'
+makes run (Write (Some file.Scan)) own = scans_end (happens run (act.File file.Scan))
+makes run (Step n) own = (steps n run, refl)
+makes run Finish own = finishes (left (past_of run.history)) run (omega arith)
+makes run (Tick n) own =
+    let target = (world_after run.history).now + n in ticks target (suc target) run own (λ m is. omega arith)
+makes run c own = (behind_line run c, refl)
 
 leads : (m : Script) (l : Line) → IsFitLine (is_fresh m) l → IsSound m → (next : Script) × (text : List ℕ) × LeadsLine m l next text
 leads m line.Blank fit sound = (m, [], (refl, refl))
-leads Fresh (line.Command (Memory words)) fit sound = (Begun words [], [], (refl, refl))
+leads Fresh (line.Command (Memory words)) fit sound = (Begun (first_run words), [], (refl, refl))
 leads Fresh (line.Command _) fit sound = absurd fit
-leads (Begun words h) (line.Command c) fit sound =
-    let made = makes words h c sound.1 in (Begun words made.0, line_text words h c made.0, (made.0, made.1, refl, refl))
+leads (Begun run) (line.Command c) fit sound =
+    let made = makes run c sound.1 in (Begun made.0, line_text run c made.0, (made.0, made.1, refl, refl))
 
 prints : (ls : List (List ℕ)) (m : Script) (n : ℕ) → IsSound m → (end : Script) × (out : List ℕ) × Prints m n ls end out
 prints [] m n sound = (m, [], (refl, refl))

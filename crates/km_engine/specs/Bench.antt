@@ -1,7 +1,7 @@
 -- What the run of a generated script comes to, and what a bench writes of it.
 use Rattle.std.specs.Prelude.{◌≡◌, ℕ, min, List, ◌++◌, length, Some}
-use Rattle.km_model.specs.declared.status.Status.{Status}
-use Rattle.km_model.specs.declared.status.Status.TheVariants as status
+use Rattle.km_base.specs.declared.status.Status.{Status}
+use Rattle.km_base.specs.declared.status.Status.TheVariants as status
 use Rattle.km_model.specs.Follows.{past_of}
 use Rattle.km_model.specs.Output.{Script, Fresh, Begun, IsRun, lines_of}
 use Rattle.km_model.specs.Verdict.{listing}
@@ -17,7 +17,7 @@ held_state bytes = record { left = Some bytes; faults = 0 }
 -- how many blocks are listed where lines led
 abbrev pub listed_at : Script → ℕ
 listed_at Fresh = 0
-listed_at (Begun words h) = length (listing (past_of h))
+listed_at (Begun run) = length (listing (past_of run.history))
 
 -- the script of a number with so many steps comes to a summary: its lines, the bytes of its output as far as they can
 -- be counted, and the blocks that are listed at its end

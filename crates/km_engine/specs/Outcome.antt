@@ -1,9 +1,9 @@
 -- How a run over some bytes may end, and what it has then taken and written.
 use Rattle.std.specs.Prelude.{◌≡◌, ℕ, ◌+◌, ◌≤◌, true, List, [], ◌∷◌, ◌++◌, length, Some, Ok}
-use Rattle.km_model.specs.declared.lines.Command.TheVariants.{Memory}
-use Rattle.km_model.specs.declared.lines.Line.TheVariants as line
-use Rattle.km_model.specs.declared.status.Status.{Status}
-use Rattle.km_model.specs.declared.status.Status.TheVariants as status
+use Rattle.km_base.specs.declared.lines.Command.TheVariants.{Memory}
+use Rattle.km_base.specs.declared.lines.Line.TheVariants as line
+use Rattle.km_base.specs.declared.status.Status.{Status}
+use Rattle.km_base.specs.declared.status.Status.TheVariants as status
 use Rattle.km_model.specs.Grammar.{rules, line_of}
 use Rattle.km_model.specs.Output.{Script, Fresh, Prints, IsOut, is_empty, limit, lines_of, status_from, status_of}
 use Rattle.km_edge.specs.Streams.{SourceState, SinkState, Rose, Wrote}

@@ -1,7 +1,7 @@
 -- A script between two lines, as it is held and as the definitions have it.
 use Rattle.std.specs.Prelude.{◌≡◌, ℕ, ◌+◌, ◌*◌, ◌^◌, ◌≤◌, Bool, length, Option, Some, None, is_none}
-use Rattle.km_model.specs.declared.lines.Line.{Line}
-use Rattle.km_model.specs.declared.lines.Line.TheVariants as line
+use Rattle.km_base.specs.declared.lines.Line.{Line}
+use Rattle.km_base.specs.declared.lines.Line.TheVariants as line
 use Rattle.km_model.specs.Output.{Script, Fresh, Begun, limit}
 use Rattle.km_machine.specs.declared.machine.Machine.{Machine}
 use Rattle.km_machine.specs.Machines.{For, HasRoom, Spent}
@@ -31,7 +31,7 @@ first_place = record { number = 1; script = Fresh }
 -- a machine, if there is one, stands for what lines led to
 abbrev pub HasLed : Option Machine → Script → Type 0
 HasLed None Fresh = Unit {0}
-HasLed (Some m) (Begun words h) = (words ≡ m.core.parts.words) × For m.core m.words h
+HasLed (Some m) (Begun run) = For m.core m.words run
 HasLed _ _ = ⊥
 
 -- a script stands at a place

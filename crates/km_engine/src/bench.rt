@@ -9,10 +9,9 @@ ghost use Rattle.km_engine.specs.Bench.{BenchEnds, SumsUp, summary_text};
 use crate::held::HeldSource;
 use crate::reading::run_from;
 use crate::script::Script;
-use km_base::NoMemory;
+use km_base::{NoMemory, Status};
 use km_edge::{CountSink, Failed, Sink, write_all};
 use km_gen::script_of;
-use km_model::Status;
 use km_text::Text;
 use std::alloc::Global;
 

@@ -6,13 +6,11 @@ ghost use Rattle.km_engine.specs.Session.{HasRoomFor};
 ghost use Rattle.km_engine.specs.Steps.{RunsLines, RunsRest, TakesRoom};
 
 use crate::script::Script;
+use km_base::Status;
+use km_base::sizes::TOO_LONG;
 use km_edge::{Cut, Lines, Sink};
 use km_forms::refuse;
-use km_model::Status;
 use std::alloc::Global;
-
-/// The column that refuses a line that is too long.
-const TOO_LONG: u32 = 257;
 
 /// Runs the whole lines that are held. An `Err` is how the script ends.
 pub fn run_lines<K: Sink>(

@@ -9,5 +9,5 @@ mod program;
 mod reading;
 mod script;
 
-pub use km_model::Status;
+pub use km_base::Status;
 pub use program::run;

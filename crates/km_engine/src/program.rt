@@ -14,9 +14,9 @@ ghost use Rattle.km_machine.specs.declared.machine.Machine.{Machine};
 use crate::bench::bench;
 use crate::reading::run_from;
 use crate::script::Script;
+use km_base::Status;
 use km_edge::{Sink, Source};
 use km_forms::{Form, check, form_of};
-use km_model::Status;
 use std::alloc::Global;
 
 /// Reads and runs a script from its first line.

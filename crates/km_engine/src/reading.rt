@@ -6,12 +6,10 @@ ghost use Rattle.km_engine.specs.Steps.{RunsScript};
 
 use crate::buffer::{run_lines, run_rest};
 use crate::script::Script;
+use km_base::Status;
+use km_base::sizes::LONGEST_INPUT;
 use km_edge::{Lines, Sink, Source};
-use km_model::Status;
 use std::alloc::Global;
-
-/// The most bytes of a script.
-const LIMIT: u64 = 67_108_864;
 
 /// Reads and runs a script, line by line: each whole line that was read runs before the next read.
 pub fn run_from<S: Source, K: Sink>(
@@ -25,11 +23,11 @@ pub fn run_from<S: Source, K: Sink>(
 {
     let mut lines = Lines::new();
     let mut taken: u64 = 0;
-    while taken <= LIMIT {
+    while taken <= LONGEST_INPUT {
         if let Err(ended) = run_lines(script, alloc, &mut lines, sink) {
             return ended;
         }
-        match lines.fill(source, (LIMIT + 1 - taken) as usize) {
+        match lines.fill(source, (LONGEST_INPUT + 1 - taken) as usize) {
             Ok(0) => return run_rest(script, alloc, &lines, sink),
             Ok(n) => taken += n as u64,
             Err(_) => return Status::ReadFault,

@@ -1,16 +1,17 @@
 //! A script between two lines.
 
 ghost use Rattle.std.specs.Prelude.{◌≡◌, [], true, is_none, length, IfOk, IfErr};
-ghost use Rattle.km_model.specs.declared.lines.Command.TheVariants.{Memory};
+ghost use Rattle.km_base.specs.declared.lines.Command.TheVariants.{Memory};
+ghost use Rattle.km_model.specs.Follows.{first_run};
 ghost use Rattle.km_machine.specs.Machines.{For};
 ghost use Rattle.km_engine.specs.Session.{HasRoomToRun, SpendsOn};
 ghost use Rattle.km_engine.specs.Steps.{IsFit, IsFitLine, IsMemory, Runs};
 
 use crate::listed::listed;
+use km_base::{Command, Line, Status};
 use km_edge::Sink;
 use km_forms::refuse;
 use km_machine::Machine;
-use km_model::{Command, Line, Status};
 use km_script::read_line;
 use std::alloc::Global;
 use std::marker::Model;
@@ -120,7 +121,7 @@ fn run<K: Sink>(
 /// Makes the machine that the first command asks for.
 fn boot(alloc: Global, command: Command) -> Result<Machine, Status>
     requires { IsFit true command }
-    ensures stands { IfOk result (λ m. For m.core m.words []) }
+    ensures stands { IfOk result (λ m. For m.core m.words (first_run m.core.parts.words)) }
     ensures asked { IfOk result (λ m. command ≡ Memory m.core.parts.words) }
     ensures size { IfOk result (λ m. length m.words ≡ m.core.parts.words) }
     ensures err { IfErr result (λ status. (status ≡ Status.NoMemory) × IsMemory (Line.Command command)) }

@@ -1,8 +1,8 @@
 -- A whole check, from the count of a script.
 use Rattle.std.proofs.Common.{◌≡◌, ℕ, List, [], ◌++◌, take, drop, Some, Ok, Err, ap, sym, subst, ◌∙◌, refl}
 use Rattle.std.proofs.lemmas.List.{append-nil, take-append-drop}
-use Rattle.km_model.specs.declared.status.Status.{Status}
-use Rattle.km_model.specs.declared.status.Status.TheVariants as status
+use Rattle.km_base.specs.declared.status.Status.{Status}
+use Rattle.km_base.specs.declared.status.Status.TheVariants as status
 use Rattle.km_model.specs.Output.{status_of}
 use Rattle.km_model.specs.Text.{commands_text, not_a_command_text}
 use Rattle.km_edge.specs.Streams.{SourceState, SinkState, Rose, StoppedAt, Wrote}

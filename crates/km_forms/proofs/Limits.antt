@@ -4,10 +4,10 @@ use Rattle.std.proofs.lemmas.Bool.Decides.{nat_tests}
 use Rattle.std.proofs.lemmas.List.{length-take, take-append-drop}
 use Rattle.std.proofs.Math.Seq.{take-append-add, take-append_seam}
 use Rattle.std.specs.Borrow.{Bor}
-use Rattle.km_model.specs.declared.lines.Line.{Line}
-use Rattle.km_model.specs.declared.lines.Line.TheVariants as line
-use Rattle.km_model.specs.declared.lines.NotACommand.{NotACommand as Refused}
-use Rattle.km_model.specs.declared.status.Status.TheVariants as status
+use Rattle.km_base.specs.declared.lines.Line.{Line}
+use Rattle.km_base.specs.declared.lines.Line.TheVariants as line
+use Rattle.km_base.specs.declared.lines.NotACommand.{NotACommand as Refused}
+use Rattle.km_base.specs.declared.status.Status.TheVariants as status
 use Rattle.km_model.specs.Grammar.{rules, line_by, line_of, is_comment, command_line}
 use Rattle.km_model.specs.Output.{all_but_last, is_empty, is_unread, limit, lines_of, end_of_script}
 use Rattle.km_model.specs.Pieces.{pieces}

@@ -1,8 +1,8 @@
 -- What a check of a script gives: its causes, and its text.
 use Rattle.std.specs.Prelude.{◌≡◌, ℕ, ◌+◌, true, List, [], ◌++◌, length, Some}
 use Rattle.std.specs.Io.KnownBytes.{Consumes}
-use Rattle.km_model.specs.declared.status.Status.{Status}
-use Rattle.km_model.specs.declared.status.Status.TheVariants as status
+use Rattle.km_base.specs.declared.status.Status.{Status}
+use Rattle.km_base.specs.declared.status.Status.TheVariants as status
 use Rattle.km_model.specs.Grammar.{rules}
 use Rattle.km_model.specs.Output.{limit, status_from, status_of}
 use Rattle.km_model.specs.Text.{commands_text, not_a_command_text}

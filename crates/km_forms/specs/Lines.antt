@@ -1,7 +1,7 @@
 -- The lines of a script, as far as it is read.
 use Rattle.std.specs.Prelude.{◌≡◌, ℕ, ◌<◌, Bool, false, List, [], ◌++◌, length, Option, Some, None}
-use Rattle.km_model.specs.declared.status.Status.{Status}
-use Rattle.km_model.specs.declared.status.Status.TheVariants as status
+use Rattle.km_base.specs.declared.status.Status.{Status}
+use Rattle.km_base.specs.declared.status.Status.TheVariants as status
 use Rattle.km_model.specs.Output.{between_line_feeds, all_but_last, is_unread}
 use Rattle.km_model.specs.Text.{not_a_command_text}
 use Rattle.km_edge.specs.Streams.{SinkState, Wrote, StoppedAt}

@@ -4,8 +4,8 @@ ghost use Rattle.km_forms.specs.Checks.{ChecksScript, WritesCount, WritesEnd};
 ghost use Rattle.km_forms.specs.Lines.{Refuses};
 
 use crate::count::count_script;
+use km_base::Status;
 use km_edge::{Sink, Source, write_all};
-use km_model::Status;
 use km_text::Text;
 
 /// Writes the text of a line that is no command, and gives the status that it means.

@@ -4,15 +4,10 @@ ghost use Rattle.std.specs.Prelude.{◌≡◌, ◌+◌, ◌-◌, ◌<◌, ◌^�
 ghost use Rattle.km_edge.specs.Lines.{Unknown, next_of};
 ghost use Rattle.km_forms.specs.Counts.{CountsLines, CountsRest, CountsScript, first_count};
 
+use km_base::sizes::{LONGEST_INPUT, TOO_LONG};
+use km_base::{Line, Status};
 use km_edge::{Cut, Lines, Source};
-use km_model::{Line, Status};
 use km_script::read_line;
-
-/// The most bytes of a script.
-const LIMIT: u64 = 67_108_864;
-
-/// The column that refuses a line that is too long.
-const TOO_LONG: u32 = 257;
 
 /// A script between two lines: the number of the next line, from 1, and the number of commands before it.
 #[derive(Drop)]
@@ -106,11 +101,11 @@ pub fn count_script<S: Source>(source: &mut S) -> Result<u64, Status>
     let mut lines = Lines::new();
     let mut count = Count::new();
     let mut taken: u64 = 0;
-    while taken <= LIMIT {
+    while taken <= LONGEST_INPUT {
         if let Err(ended) = count_lines(&mut count, &mut lines) {
             return Err(ended);
         }
-        match lines.fill(source, (LIMIT + 1 - taken) as usize) {
+        match lines.fill(source, (LONGEST_INPUT + 1 - taken) as usize) {
             Ok(0) => return count_rest(&mut count, &lines),
             Ok(n) => taken += n as u64,
             Err(_) => return Err(Status::ReadFault),

@@ -29,6 +29,9 @@ pub good_size : (limit size : ℕ) → is_bad_size limit size ≡ false → 0 < 
 good_size limit size h =
     let k = eqb-false size 0 (or_parts (size == 0) (nat_lt limit size) h).0 in omega (arith, k)
 
+pub within_size : (limit size : ℕ) → is_bad_size limit size ≡ false → size ≤ limit
+within_size limit size h = ltb-false limit size (or_parts (size == 0) (nat_lt limit size) h).1
+
 pub even_size : (size : ℕ) → is_uneven size ≡ false → Words size
 even_size size h =
     let parts = or_parts (size == 0) (not (size % 8 == 0)) h in

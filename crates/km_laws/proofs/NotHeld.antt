@@ -20,7 +20,7 @@ use Rattle.km_model.specs.Past.{Past, world, loads, begins, ends, completes, run
 use Rattle.km_model.specs.Scan.{is_white}
 use Rattle.km_model.specs.Verdict.{is_unreferenced, unreferenced, last_unreferenced, is_listed, listing_ids}
 use Rattle.km_model.specs.Changes.{world_after_act}
-use Rattle.km_model.specs.Follows.{Follows, FollowsMemory, past_of, moment, told_value}
+use Rattle.km_model.specs.Follows.{Follows, FollowsMemory, past_of, moment, run_of, told_value}
 use Rattle.km_model.specs.Held.{IsHeld, standing_through, standing_in, steady_words}
 use Rattle.km_model.specs.Headline.{WhiteAreNotHeld, ListedAreNotHeld}
 
@@ -36,7 +36,7 @@ not_held : (words : ℕ) (e : Event) (h : History) (id : ℕ) (b : Block) → Fo
 unfolding world_after_act
 not_held words e h id b follows done at white =
     let a = memory_answered words h follows.1 in
-    at_completion words h e.act e.answer (told_value words h e.act) (λ p. IsHeld (standing_through words (since_begin p)) id → ⊥) follows.0 done
+    at_completion words h e.act e.answer (told_value (run_of words h) e.act) (λ p. IsHeld (standing_through words (since_begin p)) id → ⊥) follows.0 done
     (λ k n run none held.
     let p : Past = moment (past_of h) Step (Ended (scans (past_of h)) n) ∷ past_of h in
     white_not_held (past_of h) (standing_through words (p ∷ since_begin (past_of h))) id b (made words h a)

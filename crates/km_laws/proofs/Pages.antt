@@ -3,22 +3,9 @@ use Rattle.std.specs.List.{list_any}
 use Rattle.std.proofs.lemmas.Bool.{cases_lt, cases_order, and_parts, and_from, and_right, not-true, not_from_false, both_ways}
 use Rattle.km_model.specs.Memory.{base}
 use Rattle.km_model.specs.Placement.{Allocation, page_start, page_of, least_from, touches, is_free_page, are_free_pages, page_behind, lowest_run, run_place, is_slab_block}
+use Rattle.km_model.proofs.Pages.{least_passes, behind_end, touch, touched}
 use Rattle.km_laws.specs.Placed.{Apart, AllocationsApart, InMemory, Words, WholeWords}
 use Rattle.km_laws.proofs.Lists.{Each, In, none_in, each_none}
-
--- a search up to a number that passes finds one that does
-least_passes : (test : ℕ → Bool) (left n : ℕ) → test (n + left) ≡ true → test (least_from test left n) ≡ true
-least_passes test zero n h = subst (λ k. test k ≡ true) (add-zero n) h
-least_passes test (suc left) n h =
-    let P = λ (q : Bool). test n ≡ q → test (elim q as (λ _. ℕ) [ true ↦ n | false ↦ least_from test left (n + 1) ]) ≡ true in
-    elim (test n) as P [
-      | true ↦ λ e. e
-      | false ↦ λ e. least_passes test left (n + 1) (let same : n + suc left ≡ n + 1 + left = omega arith in subst (λ k. test k ≡ true) same h)
-    ] refl
-
--- the pages behind all allocations
-behind_end : (e b p : ℕ) → (e + 4095 - b) / 4096 ≤ p → e ≤ b + 4096 * p
-behind_end e b p le = omega (arith, le)
 
 not_touched : (p : ℕ) (x : Allocation) → x.start + x.size ≤ page_start p → touches p x ≡ false
 not_touched p x le = and_right (nat_lt x.start (page_start (p + 1))) (nat_lt (page_start p) (x.start + x.size)) (le-ltb (page_start p) (x.start + x.size) le)
@@ -87,14 +74,6 @@ PagesApart x y =
 pub pages_sym : (x y : Allocation) → PagesApart x y → PagesApart y x
 pages_sym x y (inl f) = inl (λ p a b. f p b a)
 pages_sym x y (inr s) = inr (s.1, s.0, sym s.2, sym s.3, (λ e. s.4 (sym e)))
-
-pub touch : (p : ℕ) (x : Allocation) → x.start < page_start (p + 1) → page_start p < x.start + x.size → touches p x ≡ true
-touch p x a b = and_from (nat_lt x.start (page_start (p + 1))) (nat_lt (page_start p) (x.start + x.size)) (lt-ltb x.start (page_start (p + 1)) a) (lt-ltb (page_start p) (x.start + x.size) b)
-
-pub touched : (p : ℕ) (x : Allocation) → touches p x ≡ true → (x.start < page_start (p + 1)) × (page_start p < x.start + x.size)
-touched p x h =
-    let parts = and_parts (nat_lt x.start (page_start (p + 1))) (nat_lt (page_start p) (x.start + x.size)) h in
-    (ltb-true x.start (page_start (p + 1)) parts.0, ltb-true (page_start p) (x.start + x.size) parts.1)
 
 -- the page of a byte begins at or before it, and the next one behind it
 page_low : (a b : ℕ) → b ≤ a → b + 4096 * ((a - b) / 4096) ≤ a

@@ -2,7 +2,11 @@ use Rattle.std.proofs.Common.{◌≡◌, ℕ, Bool, true, false, cond, eqb, List
 use Rattle.std.proofs.lemmas.Bool.{eqb-false}
 use Rattle.km_model.specs.Scan.{behind}
 use Rattle.km_laws.proofs.Lists.{In, in_push_cases, in_append_left, in_append_right}
-pub use Rattle.km_laws.specs.Moves.{Distinct}
+
+-- no two entries of a queue are the same
+abbrev pub Distinct : List ℕ → Type 0
+Distinct [] = Unit {0}
+Distinct (n ∷ ns) = (In n ns → ⊥) × Distinct ns
 
 -- either the first is the one, or what stands behind it is in the rest
 pub behind_cases : (y m z : ℕ) (ms : List ℕ) → In z (behind y (m ∷ ms)) → ((m ≡ y) × In z ms) ⊎ ((m ≡ y → ⊥) × In z (behind y ms))

@@ -5,7 +5,7 @@ use Rattle.km_model.specs.Blocks.{Block, block_of}
 use Rattle.km_model.specs.Past.{Past, begins}
 use Rattle.km_model.specs.Scan.{stack_of}
 use Rattle.km_model.specs.Answers.{answer}
-use Rattle.km_model.specs.Follows.{Follows, FollowsMemory, past_of, told_value}
+use Rattle.km_model.specs.Follows.{Follows, FollowsMemory, past_of, run_of, told_value}
 
 -- a block stands at each moment from just after the begin of the running or last scan on
 abbrev pub StandsSince : Past → Block → Type 0
@@ -31,4 +31,4 @@ follows_answered words (e ∷ h) f = ((value_of e.answer, f.0), follows_answered
 -- and in one over a told memory
 pub memory_answered : (words : ℕ) (h : History) → FollowsMemory words h → IsAnswered words h
 memory_answered words [] f = tt
-memory_answered words (e ∷ h) f = ((told_value words h e.act, f.0), memory_answered words h f.1)
+memory_answered words (e ∷ h) f = ((told_value (run_of words h) e.act, f.0), memory_answered words h f.1)

@@ -2,9 +2,10 @@ use Rattle.std.proofs.Common.{◌≡◌, ℕ, zero, suc, ◌+◌, ◌-◌, ◌*�
 use Rattle.std.proofs.lemmas.Bool.{and_parts, not-true, both_ways}
 use Rattle.km_model.specs.Memory.{base}
 use Rattle.km_model.specs.Placement.{Allocation, SlabBlock, LargeRun, page_start, page_of, pages_for, touches, lowest_run, run_place, classes, class_of, is_slab_block, is_slab_page, is_taken, slots_from, slot_in, slot_from, free_slot, slab_place, lowest_slab, page_behind, kmalloc_place, kmalloc_span, kmalloc_use}
+use Rattle.km_model.proofs.Pages.{touched}
 use Rattle.km_laws.specs.Placed.{Words}
 use Rattle.km_laws.proofs.Lists.{Each, Pairs, In, each_in, find_in, find_each, any_in, none_in, pairs_in}
-use Rattle.km_laws.proofs.Pages.{run_is, run_is_free, words_some, Sound, PagesApart, pages_sym, slot_start, own_page, slot_page, touched, free_in, Free}
+use Rattle.km_laws.proofs.Pages.{run_is, run_is_free, words_some, Sound, PagesApart, pages_sym, slot_start, own_page, slot_page, free_in, Free}
 
 slot_some : (test : Bool) (o : Option ℕ) (a : ℕ) → (if test then o else None) ≡ Some a → (test ≡ true) × (o ≡ Some a)
 slot_some true o a h = (refl, h)

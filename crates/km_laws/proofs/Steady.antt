@@ -14,7 +14,7 @@ use Rattle.km_model.specs.Past.{Past, Place, ScanLoad, loads, with_load, scans, 
 use Rattle.km_model.specs.Scan.{next, scan_load, load_of}
 use Rattle.km_model.specs.Verdict.{new_blocks}
 use Rattle.km_model.specs.Answers.{answer}
-use Rattle.km_model.specs.Follows.{FollowsMemory, past_of, told_answer}
+use Rattle.km_model.specs.Follows.{FollowsMemory, past_of, run_of, told_answer}
 use Rattle.km_model.specs.Held.{still_steady, steady_from, steady_words}
 use Rattle.km_model.proofs.Cases.{none_some, some_same}
 
@@ -66,7 +66,7 @@ memory_of words p = memory_after words (history_of p)
 abbrev IsLoadOf : ℕ → History → ScanLoad → Type 0
 IsLoadOf words h l = ((k : ℕ) × (running_scan (past_of h) ≡ Some k)) × (l.value ≡ word_at (memory_after words h) l.place.word)
 
-load_told : (words : ℕ) (h : History) (act : Act) (given : Answer) (l : ScanLoad) → given ≡ told_answer words h act → load_of (past_of h) act given ≡ Some l → IsLoadOf words h l
+load_told : (words : ℕ) (h : History) (act : Act) (given : Answer) (l : ScanLoad) → given ≡ told_answer (run_of words h) act → load_of (past_of h) act given ≡ Some l → IsLoadOf words h l
 unfolding answer
 load_told words h Step (Loaded a v) l is made = go (running_scan (past_of h)) (next (past_of h)) refl is made
   where

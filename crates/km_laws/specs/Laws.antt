@@ -1,16 +1,17 @@
-use Rattle.std.specs.Prelude.{◌≡◌, ℕ, ◌+◌, ◌*◌, ◌<◌, ◌≤◌, ◌≢◌, Bool, false, ◌&&◌, ◌==◌, length, ◌∷◌, Option, Some, None, if◌then◌else◌}
+use Rattle.std.specs.Prelude.{◌≡◌, ℕ, ◌+◌, ◌*◌, ◌<◌, ◌≤◌, ◌≢◌, ◌^◌, Bool, true, false, ◌&&◌, ◌==◌, length, ◌∷◌, Option, Some, None, if◌then◌else◌}
 use Rattle.km_base.specs.declared.acts.Act.{Act}
-use Rattle.km_base.specs.declared.acts.Act.TheVariants.{Step}
+use Rattle.km_base.specs.declared.acts.Act.TheVariants.{Kmalloc, Load, Step}
 use Rattle.km_base.specs.declared.acts.Answer.{Answer}
-use Rattle.km_base.specs.declared.acts.Answer.TheVariants.{Loaded}
+use Rattle.km_base.specs.declared.acts.Answer.TheVariants.{At, Loaded}
 use Rattle.km_model.specs.History.{History}
 use Rattle.km_model.specs.Memory.{base}
 use Rattle.km_model.specs.Blocks.{Block}
-use Rattle.km_model.specs.Placement.{Allocation}
+use Rattle.km_model.specs.Placement.{Allocation, kmalloc_span}
 use Rattle.km_model.specs.Tasks.{Task}
 use Rattle.km_model.specs.World.{World}
-use Rattle.km_model.specs.Past.{Place, ScanLoad, world, last_load, begins, scans}
+use Rattle.km_model.specs.Past.{Past, Place, ScanLoad, world, last_load, begins, is_loaded, scans}
 use Rattle.km_model.specs.Scan.{next}
+use Rattle.km_model.specs.Answers.{answer}
 use Rattle.km_model.specs.Follows.{Follows, moment, past_of}
 use Rattle.km_model.specs.Headline.{IsMemorySize}
 use Rattle.km_laws.specs.Members.{Each, Pairs}
@@ -82,3 +83,26 @@ NothingRaises =
 abbrev pub LeftIsBounded : Type 0
 LeftIsBounded =
     (words : ℕ) (h : History) → IsMemorySize words → Follows words h → left (past_of h) ≤ 2 * words + 3 * length (world (past_of h)).blocks + 1
+
+-- whether an act can be answered by a load
+abbrev pub may_load : Act → Bool
+may_load (Load _ _ _) = true
+may_load Step = true
+may_load _ = false
+
+-- no other act is
+abbrev pub OnlyLoadsLoad : Type 0
+OnlyLoadsLoad = (words : ℕ) (past : Past) (act : Act) (value : ℕ) → may_load act ≡ false → is_loaded (answer words past act value) ≡ false
+
+-- a block for a request of so many bytes lies at an address: it is whole words of the memory, and ends below 2^64
+pub record BlockLies (words size a : ℕ) : Type 0 where
+  pub small : size ≤ 32768
+  pub whole : WholeWords a (kmalloc_span size)
+  pub inside : InMemory words a (kmalloc_span size)
+  pub end : a + kmalloc_span size < 2 ^ 64
+
+-- where a request is answered by an address, such a block lies there
+abbrev pub BlocksLie : Type 0
+BlocksLie =
+    (words : ℕ) (h : History) (size a value : ℕ) → IsMemorySize words → Follows words h → answer words (past_of h) (Kmalloc size) value ≡ At a
+    → BlockLies words size a

@@ -1,4 +1,5 @@
 use Rattle.std.specs.Prelude.{◌≡◌, ℕ, suc, ◌+◌, ◌*◌, ◌≤◌, Bool, true, false, ◌⊎◌, List}
+use Rattle.km_base.specs.declared.sizes.TheConstants.{PAGE}
 use Rattle.km_model.specs.Memory.{base}
 use Rattle.km_model.specs.Blocks.{Block}
 use Rattle.km_model.specs.Placement.{Allocation, StackPage, PlainRun, BootRun}
@@ -49,4 +50,4 @@ BlockPlaced used b =
 
 -- the stack of a task is a live allocation of one page
 abbrev pub StackPlaced : List Allocation → Task → Type 0
-StackPlaced used t = (x : Allocation) × In x used × (is_stack x ≡ true) × (x.start ≡ t.stack) × (x.size ≡ 4096)
+StackPlaced used t = (x : Allocation) × In x used × (is_stack x ≡ true) × (x.start ≡ t.stack) × (x.size ≡ PAGE)

@@ -6,8 +6,7 @@
 pub mod soundness;
 
 ghost use Rattle.km_model.specs.Headline.{ScansEnd};
-ghost use Rattle.km_laws.specs.Laws.{AllIsPlaced, NextIsAWord, NamesRise, NamesAreFew, LoadsLower, NothingRaises, LeftIsBounded};
-ghost use Rattle.km_laws.specs.Moves.{LoadsLowerAt, AllMovesLower, NoSkipRaises, AllQueuesFit, NothingRaisesAt, LeftAtIsBounded};
+ghost use Rattle.km_laws.specs.Laws.{AllIsPlaced, NextIsAWord, NamesRise, NamesAreFew, LoadsLower, NothingRaises, LeftIsBounded, OnlyLoadsLoad, BlocksLie};
 
 /// Live allocations are whole words of the memory and never meet; each live block is whole words of one, and no two
 /// blocks meet; stacks are allocations.
@@ -50,32 +49,12 @@ pub fn scans_end()
     ensures { ScansEnd }
 {}
 
-/// Each load lowers what is left where the scanner stands.
-pub fn loads_lower_at()
-    ensures { LoadsLowerAt }
+/// No act but a load of a task and a step of the scanner is answered by a load.
+pub fn only_loads_load()
+    ensures { OnlyLoadsLoad }
 {}
 
-/// Each move lowers it: to the next stack, entry of a queue, block or phase.
-pub fn all_moves_lower()
-    ensures { AllMovesLower }
-{}
-
-/// To leave out what is gone raises nothing.
-pub fn no_skip_raises()
-    ensures { NoSkipRaises }
-{}
-
-/// The entries of the two queues are different, and no live one is white.
-pub fn all_queues_fit()
-    ensures { AllQueuesFit }
-{}
-
-/// Nothing but registering a block and starting a task raises it.
-pub fn nothing_raises_at()
-    ensures { NothingRaisesAt }
-{}
-
-/// It is bounded.
-pub fn left_at_is_bounded()
-    ensures { LeftAtIsBounded }
+/// The block that a request is given is whole words of the memory.
+pub fn blocks_lie()
+    ensures { BlocksLie }
 {}

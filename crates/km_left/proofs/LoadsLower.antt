@@ -26,6 +26,7 @@ use Rattle.km_state.proofs.EndLaws.{Painted, white_same}
 use Rattle.km_state.proofs.ToldLaws.{load_same}
 use Rattle.km_state.proofs.StandsLaws.{recounted_stands, stands_recounted, next_stands}
 use Rattle.km_state.proofs.CodeLaws.{applied_stands}
+use Rattle.km_state.proofs.QueueLaws.{left_2, left_4}
 use Rattle.km_laws.specs.Placed.{BlockPlaced}
 use Rattle.km_laws.proofs.Lists.{In, each_in, in_map, map_in, filter_in}
 use Rattle.km_laws.proofs.Laws.{all_is_placed}
@@ -35,7 +36,7 @@ use Rattle.km_laws.proofs.Steps.{fits, last_is}
 use Rattle.km_left.specs.LeftIn.{scan_left, left_in}
 use Rattle.km_left.specs.Laws.{LoadsLowerIn}
 use Rattle.km_left.proofs.Loads.{holder_of, load_lowers}
-use Rattle.km_left.proofs.Ways.{cursor_is, left_2, left_4, Cost, Ordered, way}
+use Rattle.km_left.proofs.Ways.{cursor_is, Cost, Ordered, way}
 
 -- the holder of a grey pass is neither white nor queued
 held_in : (q1 q2 : List ℕ) (ls : List ScanLoad) (bs : List Block) (b : Block) → Order q1 q2 ls → QueuedGrey q1 q2 ls b

@@ -12,6 +12,7 @@ use Rattle.km_state.specs.State.{Tracked, Cursor, Start, Last, Behind, Scanning}
 use Rattle.km_state.specs.StateNext.{phase_at, is_at}
 use Rattle.km_state.specs.StandsFor.{is_live, left_of, cursor_at, tracked}
 use Rattle.km_state.proofs.NextLaws.{Staged}
+use Rattle.km_state.proofs.QueueLaws.{left_2, left_3, left_4}
 use Rattle.km_laws.specs.Placed.{Words}
 use Rattle.km_laws.proofs.Lists.{In, in_map, map_in, in_filter, Rising, rising_unique}
 use Rattle.km_left.specs.LeftIn.{is_ahead}
@@ -135,15 +136,6 @@ queued p last place held q live left i =
 
 left_1 : (f s : List ℕ) (l : ScanLoad) → l.place.phase ≡ 1 → left_of f s (Some l) ≡ f
 left_1 f s l e = rw (ap (λ k. k == 1) e) refl
-
-pub left_2 : (f s : List ℕ) (l : ScanLoad) → l.place.phase ≡ 2 → left_of f s (Some l) ≡ behind l.place.holder f
-left_2 f s l e = rw (ap (λ k. k == 1) e, ap (λ k. k == 2) e) refl
-
-left_3 : (f s : List ℕ) (l : ScanLoad) → l.place.phase ≡ 3 → left_of f s (Some l) ≡ s
-left_3 f s l e = rw (ap (λ k. k == 1) e, ap (λ k. k == 2) e, ap (λ k. k == 3) e) refl
-
-pub left_4 : (f s : List ℕ) (l : ScanLoad) → l.place.phase ≡ 4 → left_of f s (Some l) ≡ behind l.place.holder s
-left_4 f s l e = rw (ap (λ k. k == 1) e, ap (λ k. k == 2) e, ap (λ k. k == 3) e) refl
 
 abbrev GreyComes : Past → Option ScanLoad → Place → ℕ → Type 0
 GreyComes p last place q =

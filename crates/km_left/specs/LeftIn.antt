@@ -1,5 +1,6 @@
 -- What a running scan has left, by the lists of the state alone.
 use Rattle.std.specs.Prelude.{ℕ, suc, ◌+◌, ◌-◌, ◌*◌, ◌/◌, min, Bool, true, ◌&&◌, ◌||◌, ◌==◌, nat_lt, List, Some, None, if◌then◌else◌}
+use Rattle.km_base.specs.declared.sizes.TheConstants.{PAGE_WORDS}
 use Rattle.km_model.specs.Blocks.{is_among}
 use Rattle.km_model.specs.Tasks.{Task}
 use Rattle.km_state.specs.State.{State, Tracked, Cursor, Start, Last, Behind, Scanning, is_white_now}
@@ -34,7 +35,7 @@ phase_left phase cursor number start words =
 
 -- what the first phase has left of a stack, whether stacks are scanned or not
 abbrev pub stack_left : Cursor → Task → ℕ
-stack_left cursor t = phase_left 1 cursor t.number t.stack 512
+stack_left cursor t = phase_left 1 cursor t.number t.stack PAGE_WORDS
 
 -- what the sums have left of a block, white or not
 abbrev pub sum_left : Cursor → Tracked → ℕ

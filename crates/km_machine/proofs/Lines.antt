@@ -12,18 +12,18 @@ use Rattle.km_base.specs.declared.acts.Refusal.TheVariants.{NoObject, NotInside,
 use Rattle.km_edge.specs.declared.errors.Failed.{Failed}
 use Rattle.km_edge.specs.Streams.{SinkState, WritesAll}
 use Rattle.km_edge.proofs.Writing.{wrote_none}
-use Rattle.km_model.specs.declared.lines.Command.{Command}
-use Rattle.km_model.specs.declared.lines.Command.TheVariants as command
-use Rattle.km_model.specs.declared.lines.Operand.{Operand}
-use Rattle.km_model.specs.declared.lines.RegName.{RegName}
+use Rattle.km_base.specs.declared.lines.Command.{Command}
+use Rattle.km_base.specs.declared.lines.Command.TheVariants as command
+use Rattle.km_base.specs.declared.lines.Operand.{Operand}
+use Rattle.km_base.specs.declared.lines.RegName.{RegName}
 use Rattle.km_model.specs.Blocks.{Block, block_at, block_with}
 use Rattle.km_model.specs.World.{World}
 use Rattle.km_model.specs.Past.{Past, Place, world, running_scan, scans}
 use Rattle.km_model.specs.Scan.{next}
 use Rattle.km_model.specs.Verdict.{new_blocks}
 use Rattle.km_model.specs.History.{History, ticks_of}
-use Rattle.km_model.specs.Follows.{all_happen, happens, told_answer, told_value, past_of}
-use Rattle.km_model.specs.Answers.{answer, unless, done_at, unless_busy, annotation_answer, area_added, part_answer, dump_answer, stop_answer, write_answer, info_of}
+use Rattle.km_model.specs.Follows.{Run, all_happen, happens, told_answer, told_value, past_of}
+use Rattle.km_model.specs.Answers.{answer, unless, done_at, unless_busy, annotation_answer, area_added, part_answer, dump_answer, why_answer, stop_answer, write_answer, info_of}
 use Rattle.km_model.specs.Changes.{world_after_act}
 use Rattle.km_model.specs.Operands.{operand_value, task_or_refusal, then_do}
 use Rattle.km_model.specs.Tasks.{Task}
@@ -90,6 +90,8 @@ word_not past file.Off = unless_not (not (world past).enabled) Disabled (stop_an
 word_not past file.Clear = busy_not (running_scan past) Done done_not
 word_not past (file.Dump a) =
     unless_not (not (world past).enabled) Disabled (unless_busy (running_scan past) (dump_answer past a)) (busy_not (running_scan past) (dump_answer past a) (shown_not past (block_with (world past).blocks a)))
+word_not past (file.Why a) =
+    unless_not (not (world past).enabled) Disabled (unless_busy (running_scan past) (why_answer (world past) a)) (busy_not (running_scan past) (why_answer (world past) a) (found_not (block_with (world past).blocks a)))
 word_not past _ = unless_not (not (world past).enabled) Disabled (unless_busy (running_scan past) Done) (busy_not (running_scan past) Done done_not)
 
 step_not : (past : Past) (value : ℕ) (o : Option ℕ) (p : Option Place)
@@ -130,8 +132,8 @@ not_place words past (act.Pages n) value s = absurd (cc)
 not_place words past (act.VmTake size) value s = absurd (cc)
 not_place words past (act.BootMem size) value s = absurd (cc)
 
-no_request : (words : ℕ) (h : History) (a : Act) → is_request a ≡ false → is_place (told_answer words h a) ≡ false
-no_request words h a s = (not_place words (past_of h) a (told_value words h a) s).no
+no_request : (run : Run) (a : Act) → is_request a ≡ false → is_place (told_answer run a) ≡ false
+no_request run a s = (not_place run.words (past_of run.history) a (told_value run a) s).no
 
 simple_request : (a : Act) → is_simple a ≡ true → is_request a ≡ false
 simple_request (act.Kmalloc _) s = absurd (cc)
@@ -140,14 +142,14 @@ simple_request (act.VmTake _) s = absurd (cc)
 simple_request (act.BootMem _) s = absurd (cc)
 simple_request a s = refl
 
-pub simply_answered : (words : ℕ) (h : History) (a : Act) → is_simple a ≡ true → is_place (told_answer words h a) ≡ false
-simply_answered words h a s = no_request words h a (simple_request a s)
+pub simply_answered : (run : Run) (a : Act) → is_simple a ≡ true → is_place (told_answer run a) ≡ false
+simply_answered run a s = no_request run a (simple_request a s)
 
 -- the first word of a line stands in an address's text alone
-pub any_word : (words : ℕ) (v w : List ℕ) (h : History) (a : Act) (given : Answer) → is_place given ≡ false → answer_text words v h a given ≡ answer_text words w h a given
-any_word words v w h a (At x) e = absurd (cc)
-any_word words v w h act.Read Done e = refl
-any_word words v w h a given e = refl
+pub any_word : (memory v w : List ℕ) (h : History) (a : Act) (given : Answer) → is_place given ≡ false → answer_text memory v h a given ≡ answer_text memory w h a given
+any_word memory v w h a (At x) e = absurd (cc)
+any_word memory v w h act.Read Done e = refl
+any_word memory v w h a given e = refl
 
 -- neither kind of act reads the file
 pub simple_unread : (a : Act) → is_simple a ≡ true → a ≡ act.Read → ⊥
@@ -161,19 +163,18 @@ request_ticks (act.Tick n) e = absurd (cc)
 request_ticks a e = refl
 
 -- a line begins
-abbrev pub begun : (word : List ℕ) (core : Seen) (memory : List ℕ) (h : History) (k : SinkState) → For core memory h → SoFar core.parts.words word h h core memory k k (Ok tt)
-begun word core memory h k f = record { stands = f; words = refl; count = 0; grown = (omega arith); wrote = wrote_none k }
+abbrev pub begun : (word : List ℕ) (core : Seen) (told : List ℕ) (run : Run) (k : SinkState) → For core told run → SoFar word run run core told k k (Ok tt)
+begun word core told run k f = record { stands = f; count = 0; grown = (omega arith); wrote = wrote_none k }
 
 -- one event more
-pub one_more : (size : ℕ) (word : List ℕ) (first h : History) (core next : Seen) (memory after : List ℕ) (k k' k'' : SinkState) (written result : Result (Unit {0}) Failed) (a : Act) (given : Answer)
-    → (s : SoFar size word first h core memory k k' written) → For next after (happens core.parts.words h a) → next.parts.words ≡ core.parts.words → given ≡ told_answer core.parts.words h a
-    → WritesAll k k'' (events_text size word s.count h ++ answer_text size word h a given) result → SoFar size word first (happens size h a) next after k k'' result
-one_more size word first h core next memory after k k' k'' written result a given s f same answered wrote = record {
-  stands = subst (λ n. For next after (happens n h a)) s.words f;
-  words = same ∙ s.words;
+pub one_more : (word : List ℕ) (first run : Run) (core next : Seen) (told after : List ℕ) (k k' k'' : SinkState) (written result : Result (Unit {0}) Failed) (a : Act) (given : Answer)
+    → (s : SoFar word first run core told k k' written) → For next after (happens run a) → given ≡ told_answer run a
+    → WritesAll k k'' (events_text first.memory word s.count run.history ++ answer_text first.memory word run.history a given) result → SoFar word first (happens run a) next after k k'' result
+one_more word first run core next told after k k' k'' written result a given s f answered wrote = record {
+  stands = f;
   count = suc s.count;
   grown = (let e = s.grown in omega (arith, e));
-  wrote = subst (λ x. WritesAll k k'' (events_text size word s.count h ++ answer_text size word h a x) result) (answered ∙ ap (λ n. told_answer n h a) s.words) wrote;
+  wrote = subst (λ x. WritesAll k k'' (events_text first.memory word s.count run.history ++ answer_text first.memory word run.history a x) result) answered wrote;
 }
 
 -- a line that makes its acts and then those behind an address
@@ -189,42 +190,42 @@ allocation_plain c e = either (is_alone c) (is_allocation c) e where
   either true d e = refl
   either false d e = e
 
-plain_makes : (words : ℕ) (h x : History) (c : Command) → is_plain c ≡ true → behind_line words h c ≡ x → Makes words h c x
-plain_makes words h x (command.Write (Some file.Scan)) p e = absurd (cc)
-plain_makes words h x (command.Step n) p e = absurd (cc)
-plain_makes words h x command.Finish p e = absurd (cc)
-plain_makes words h x (command.Tick n) p e = absurd (cc)
-plain_makes words h x c p e = e
+plain_makes : (run x : Run) (c : Command) → is_plain c ≡ true → behind_line run c ≡ x → Makes run c x
+plain_makes run x (command.Write (Some file.Scan)) p e = absurd (cc)
+plain_makes run x (command.Step n) p e = absurd (cc)
+plain_makes run x command.Finish p e = absurd (cc)
+plain_makes run x (command.Tick n) p e = absurd (cc)
+plain_makes run x c p e = e
 
 plain_prints : (h : History) (c : Command) → is_plain c ≡ true → print_text h c ≡ []
 plain_prints h (command.Print o) p = absurd (cc)
 plain_prints h c p = refl
 
 -- the text of a line is that of its events
-line_is : (words count : ℕ) (h x : History) (c : Command) (acts : List Act) → first_acts (world_after h) c ≡ Ok acts → print_text h c ≡ [] → length x ≡ count + length h
-    → line_text words h c x ≡ events_text words (keyword c) count x
-line_is words count h x c acts first prints grown =
-    ap (λ (r : Acts). elim r as (λ _. List ℕ) [ Err r ↦ refusal_text r | Ok _ ↦ print_text h c ++ events_text words (keyword c) (length x - length h) x ]) first
-    ∙ ap (λ t. t ++ events_text words (keyword c) (length x - length h) x) prints
-    ∙ (let n : length x - length h ≡ count = omega (arith, grown) in ap (λ n. events_text words (keyword c) n x) n)
+line_is : (count : ℕ) (run x : Run) (c : Command) (acts : List Act) → first_acts (world_after run.history) c ≡ Ok acts → print_text run.history c ≡ [] → length x.history ≡ count + length run.history
+    → line_text run c x ≡ events_text run.memory (keyword c) count x.history
+line_is count run x c acts first prints grown =
+    ap (λ (r : Acts). elim r as (λ _. List ℕ) [ Err r ↦ refusal_text r | Ok _ ↦ print_text run.history c ++ events_text run.memory (keyword c) (length x.history - length run.history) x.history ]) first
+    ∙ ap (λ t. t ++ events_text run.memory (keyword c) (length x.history - length run.history) x.history) prints
+    ∙ (let n : length x.history - length run.history ≡ count = omega (arith, grown) in ap (λ n. events_text run.memory (keyword c) n x.history) n)
 
-ran : (core next : Seen) (memory after : List ℕ) (h x : History) (c : Command) (k k' : SinkState) (result : Result (Unit {0}) Failed) (acts : List Act)
-    → SoFar core.parts.words (keyword c) h x next after k k' result → first_acts (world_after h) c ≡ Ok acts → print_text h c ≡ [] → Makes core.parts.words h c x
-    → RunsLine core next memory after h c k k' result
-ran core next memory after h x c k k' result acts s first prints makes = record {
+ran : (next : Seen) (after : List ℕ) (run x : Run) (c : Command) (k k' : SinkState) (result : Result (Unit {0}) Failed) (acts : List Act)
+    → SoFar (keyword c) run x next after k k' result → first_acts (world_after run.history) c ≡ Ok acts → print_text run.history c ≡ [] → Makes run c x
+    → RunsLine next after run c k k' result
+ran next after run x c k k' result acts s first prints makes = record {
   behind = x;
   makes = makes;
   stands = s.stands;
-  wrote = subst (λ t. WritesAll k k' t result) (sym (line_is core.parts.words s.count h x c acts first prints s.grown)) s.wrote;
+  wrote = subst (λ t. WritesAll k k' t result) (sym (line_is s.count run x c acts first prints s.grown)) s.wrote;
 }
 
 -- a plain line of these acts
-pub plain_ran : (core next : Seen) (memory after : List ℕ) (h : History) (c : Command) (k k' : SinkState) (result : Result (Unit {0}) Failed) (a : Act) → is_plain c ≡ true → Ok (a ∷ []) ≡ first_acts (world_after h) c
-    → SoFar core.parts.words (keyword c) h (all_happen core.parts.words (happens core.parts.words h a) (further_acts (happens core.parts.words h a) c)) next after k k' result
-    → RunsLine core next memory after h c k k' result
-plain_ran core next memory after h c k k' result a plain first s =
-    ran core next memory after h _ c k k' result (a ∷ []) s (sym first) (plain_prints h c plain)
-    (plain_makes core.parts.words h _ c plain (ap (behind_acts core.parts.words h c) (sym first)))
+pub plain_ran : (next : Seen) (after : List ℕ) (run : Run) (c : Command) (k k' : SinkState) (result : Result (Unit {0}) Failed) (a : Act) → is_plain c ≡ true → Ok (a ∷ []) ≡ first_acts (world_after run.history) c
+    → SoFar (keyword c) run (all_happen (happens run a) (further_acts (happens run a).history c)) next after k k' result
+    → RunsLine next after run c k k' result
+plain_ran next after run c k k' result a plain first s =
+    ran next after run _ c k k' result (a ∷ []) s (sym first) (plain_prints run.history c plain)
+    (plain_makes run _ c plain (ap (behind_acts run c) (sym first)))
 
 -- nothing is behind what isn't an address
 pub none_further : (h : History) (a : Act) (given : Answer) (c : Command) → is_place given ≡ false → further_acts (record { act = a; answer = given } ∷ h) c ≡ []
@@ -232,13 +233,13 @@ none_further h a (At x) c e = absurd (cc)
 none_further h a given c e = refl
 
 -- a line that is refused
-pub refused_line : (core : Seen) (memory : List ℕ) (h : History) (c : Command) (k k' : SinkState) (result : Result (Unit {0}) Failed) (r : Refusal) → is_plain c ≡ true → For core memory h
-    → Err r ≡ first_acts (world_after h) c → WritesAll k k' (refusal_text r) result → RunsLine core core memory memory h c k k' result
-refused_line core memory h c k k' result r plain f first wrote = record {
-  behind = h;
-  makes = plain_makes core.parts.words h h c plain (ap (behind_acts core.parts.words h c) (sym first));
+pub refused_line : (core : Seen) (told : List ℕ) (run : Run) (c : Command) (k k' : SinkState) (result : Result (Unit {0}) Failed) (r : Refusal) → is_plain c ≡ true → For core told run
+    → Err r ≡ first_acts (world_after run.history) c → WritesAll k k' (refusal_text r) result → RunsLine core told run c k k' result
+refused_line core told run c k k' result r plain f first wrote = record {
+  behind = run;
+  makes = plain_makes run run c plain (ap (behind_acts run c) (sym first));
   stands = f;
-  wrote = subst (λ t. WritesAll k k' t result) (ap (λ (x : Acts). elim x as (λ _. List ℕ) [ Err r ↦ refusal_text r | Ok _ ↦ print_text h c ++ events_text core.parts.words (keyword c) (length h - length h) h ]) first) wrote;
+  wrote = subst (λ t. WritesAll k k' t result) (ap (λ (x : Acts). elim x as (λ _. List ℕ) [ Err r ↦ refusal_text r | Ok _ ↦ print_text run.history c ++ events_text run.memory (keyword c) (length run.history - length run.history) run.history ]) first) wrote;
 }
 
 pub not_at : (x : Answer) → ((a : ℕ) → x ≡ At a → ⊥) → is_place x ≡ false
@@ -250,51 +251,51 @@ pub further_at : (h x : History) (a : Act) (start : ℕ) (c : Command) → x ≡
 further_at h x a start c e = subst (λ y. further_acts y c ≡ acts_behind (world_after y) c start) (sym e) refl
 
 -- a line that prints a value
-pub shows : (core : Seen) (memory : List ℕ) (h : History) (o : Operand) (k k' : SinkState) (result : Result (Unit {0}) Failed) (v : ℕ) → For core memory h → Ok v ≡ operand_value (world_after h) o
-    → WritesAll k k' (value_text v) result → RunsLine core core memory memory h (command.Print o) k k' result
-shows core memory h o k k' result v f e wrote = record {
-  behind = h;
-  makes = ap (λ (r : Result ℕ Refusal). behind_acts core.parts.words h (command.Print o) (then_do r (λ _. Ok []))) (sym e);
+pub shows : (core : Seen) (told : List ℕ) (run : Run) (o : Operand) (k k' : SinkState) (result : Result (Unit {0}) Failed) (v : ℕ) → For core told run → Ok v ≡ operand_value (world_after run.history) o
+    → WritesAll k k' (value_text v) result → RunsLine core told run (command.Print o) k k' result
+shows core told run o k k' result v f e wrote = record {
+  behind = run;
+  makes = ap (λ (r : Result ℕ Refusal). behind_acts run (command.Print o) (then_do r (λ _. Ok []))) (sym e);
   stands = f;
   wrote = subst (λ t. WritesAll k k' t result) (sym text) wrote;
 } where
-  none : length h - length h ≡ 0
+  none : length run.history - length run.history ≡ 0
   none = omega arith
 
-  text : line_text core.parts.words h (command.Print o) h ≡ value_text v
+  text : line_text run (command.Print o) run ≡ value_text v
   text =
       ap (λ (r : Result ℕ Refusal). elim (then_do {B = List Act} r (λ _. Ok [])) as (λ _. List ℕ) [
         | Err x ↦ refusal_text x
-        | Ok _ ↦ print_value r ++ events_text core.parts.words [] (length h - length h) h
-      ]) (sym e) ∙ ap (λ n. value_text v ++ events_text core.parts.words [] n h) none ∙ append-nil (value_text v)
+        | Ok _ ↦ print_value r ++ events_text run.memory [] (length run.history - length run.history) run.history
+      ]) (sym e) ∙ ap (λ n. value_text v ++ events_text run.memory [] n run.history) none ∙ append-nil (value_text v)
 
 -- a read lists, or is refused
-listed_same : (words : ℕ) (h : History) → listing_text words (record { act = act.Read; answer = Done } ∷ h) ≡ listing_text words h
+listed_same : (memory : List ℕ) (h : History) → listing_text memory (record { act = act.Read; answer = Done } ∷ h) ≡ listing_text memory h
 unfolding world_after_act
-listed_same words h = refl
+listed_same memory h = refl
 
-pub read_text : (words : ℕ) (word : List ℕ) (h : History) (given : Answer) → (given ≡ Done → ⊥) → given ≡ told_answer words h act.Read
-    → answer_text words word h act.Step given ≡ answer_text words [] h act.Read given
+pub read_text : (memory word : List ℕ) (run : Run) (given : Answer) → (given ≡ Done → ⊥) → given ≡ told_answer run act.Read
+    → answer_text memory word run.history act.Step given ≡ answer_text memory [] run.history act.Read given
 unfolding answer
-read_text words word h given never e = by_scan (running_scan (past_of h)) e where
-  by_scan : (o : Option ℕ) → given ≡ unless_busy o Done → answer_text words word h act.Step given ≡ answer_text words [] h act.Read given
+read_text memory word run given never e = by_scan (running_scan (past_of run.history)) e where
+  by_scan : (o : Option ℕ) → given ≡ unless_busy o Done → answer_text memory word run.history act.Step given ≡ answer_text memory [] run.history act.Read given
   by_scan None e = absurd (never e)
-  by_scan (Some k) e = ap (answer_text words word h act.Step) e ∙ ap (answer_text words [] h act.Read) (sym e)
+  by_scan (Some k) e = ap (answer_text memory word run.history act.Step) e ∙ ap (answer_text memory [] run.history act.Read) (sym e)
 
-pub reads : (core next : Seen) (memory after : List ℕ) (h : History) (k k' : SinkState) (result : Result (Unit {0}) Failed) (given : Answer) → For core memory h
-    → For next after (happens core.parts.words h act.Read) → next.parts.words ≡ core.parts.words → given ≡ told_answer core.parts.words h act.Read
-    → WritesAll k k' (answer_text core.parts.words [] h act.Read given) result → RunsLine core next memory after h command.Read k k' result
-reads core next memory after h k k' result given f stands words answered wrote =
-    ran core next memory after h (happens core.parts.words h act.Read) command.Read k k' result (act.Read ∷ [])
-    (one_more core.parts.words [] h h core next memory after k k k' (Ok tt) result act.Read given (begun [] core memory h k f) stands words answered wrote) refl refl
-    (ap (all_happen core.parts.words (happens core.parts.words h act.Read)) (none_further h act.Read (told_answer core.parts.words h act.Read) command.Read (no_request core.parts.words h act.Read refl)))
+pub reads : (core next : Seen) (told after : List ℕ) (run : Run) (k k' : SinkState) (result : Result (Unit {0}) Failed) (given : Answer) → For core told run
+    → For next after (happens run act.Read) → given ≡ told_answer run act.Read
+    → WritesAll k k' (answer_text run.memory [] run.history act.Read given) result → RunsLine next after run command.Read k k' result
+reads core next told after run k k' result given f stands answered wrote =
+    ran next after run (happens run act.Read) command.Read k k' result (act.Read ∷ [])
+    (one_more [] run run core next told after k k k' (Ok tt) result act.Read given (begun [] core told run k f) stands answered wrote) refl refl
+    (ap (all_happen (happens run act.Read)) (none_further run.history act.Read (told_answer run act.Read) command.Read (no_request run act.Read refl)))
 
-pub lists : (core next : Seen) (memory after : List ℕ) (h : History) (k k' : SinkState) (result : Result (Unit {0}) Failed) → For core memory h
-    → For next after (happens core.parts.words h act.Read) → next.parts.words ≡ core.parts.words → Done ≡ told_answer core.parts.words h act.Read
-    → WritesAll k k' (listing_text next.parts.words (happens core.parts.words h act.Read)) result → RunsLine core next memory after h command.Read k k' result
-lists core next memory after h k k' result f stands words answered wrote =
-    reads core next memory after h k k' result Done f stands words answered (subst (λ t. WritesAll k k' t result)
-    (ap (λ n. listing_text n (happens core.parts.words h act.Read)) words ∙ ap (λ x. listing_text core.parts.words (record { act = act.Read; answer = x } ∷ h)) (sym answered) ∙ listed_same core.parts.words h) wrote)
+pub lists : (core next : Seen) (told after : List ℕ) (run : Run) (k k' : SinkState) (result : Result (Unit {0}) Failed) → For core told run
+    → For next after (happens run act.Read) → Done ≡ told_answer run act.Read
+    → WritesAll k k' (listing_text (happens run act.Read).memory (happens run act.Read).history) result → RunsLine next after run command.Read k k' result
+lists core next told after run k k' result f stands answered wrote =
+    reads core next told after run k k' result Done f stands answered (subst (λ t. WritesAll k k' t result)
+    (ap (λ x. listing_text run.memory (record { act = act.Read; answer = x } ∷ run.history)) (sym answered) ∙ listed_same run.memory run.history) wrote)
 
 -- an area is given back
 none_behind_vfree : (h : History) (o : Operand) → further_acts h (command.Vfree o) ≡ []
@@ -303,23 +304,24 @@ none_behind_vfree (e ∷ h) o = by_answer e.answer where
   by_answer : (x : Answer) → (elim x as (λ _. List Act) [ At a ↦ acts_behind (world_after (e ∷ h)) (command.Vfree o) a | _ ↦ [] ]) ≡ []
   by_answer x = elim x as (λ x. (elim x as (λ _. List Act) [ At a ↦ acts_behind (world_after (e ∷ h)) (command.Vfree o) a | _ ↦ [] ]) ≡ []) [ At a ↦ refl | _ ↦ refl ]
 
-gives_acts : (words : ℕ) (h : History) (o : Operand) (a : ℕ) (slot : Option ℕ)
-    → behind_acts words h (command.Vfree o) (Ok (elim slot as (λ _. List Act) [ None ↦ act.VmGive a ∷ [] | Some s ↦ act.Store (slot_word s) 0 ∷ act.VmGive a ∷ [] ]))
-    ≡ all_happen words h (elim slot as (λ _. List Act) [ None ↦ act.VmGive a ∷ [] | Some s ↦ act.Store (slot_word s) 0 ∷ act.VmGive a ∷ [] ])
-gives_acts words h o a None = ap (all_happen words (all_happen words h (act.VmGive a ∷ []))) (none_behind_vfree (all_happen words h (act.VmGive a ∷ [])) o)
-gives_acts words h o a (Some s) = ap (all_happen words (all_happen words h (act.Store (slot_word s) 0 ∷ act.VmGive a ∷ []))) (none_behind_vfree (all_happen words h (act.Store (slot_word s) 0 ∷ act.VmGive a ∷ [])) o)
+gives_acts : (run : Run) (o : Operand) (a : ℕ) (slot : Option ℕ)
+    → behind_acts run (command.Vfree o) (Ok (elim slot as (λ _. List Act) [ None ↦ act.VmGive a ∷ [] | Some s ↦ act.Store (slot_word s) 0 ∷ act.VmGive a ∷ [] ]))
+    ≡ all_happen run (elim slot as (λ _. List Act) [ None ↦ act.VmGive a ∷ [] | Some s ↦ act.Store (slot_word s) 0 ∷ act.VmGive a ∷ [] ])
+gives_acts run o a None = let done = all_happen run (act.VmGive a ∷ []) in ap (all_happen done) (none_behind_vfree done.history o)
+gives_acts run o a (Some s) = let done = all_happen run (act.Store (slot_word s) 0 ∷ act.VmGive a ∷ []) in ap (all_happen done) (none_behind_vfree done.history o)
 
-pub gives : (core next : Seen) (memory after : List ℕ) (h : History) (o : Operand) (k k' : SinkState) (result : Result (Unit {0}) Failed) (a : ℕ) → Ok a ≡ operand_value (world_after h) o
-    → SoFar core.parts.words [] h (all_happen core.parts.words h (vfree_acts (world_after h) a)) next after k k' result → RunsLine core next memory after h (command.Vfree o) k k' result
-gives core next memory after h o k k' result a e s =
-    ran core next memory after h _ (command.Vfree o) k k' result (vfree_acts (world_after h) a) s (ap (λ (r : Result ℕ Refusal). then_do r (λ x. Ok (vfree_acts (world_after h) x))) (sym e)) refl
-    (ap (λ (r : Result ℕ Refusal). behind_acts core.parts.words h (command.Vfree o) (then_do r (λ x. Ok (vfree_acts (world_after h) x)))) (sym e)
-    ∙ gives_acts core.parts.words h o a (slot_of_area (world_after h).used a))
+pub gives : (next : Seen) (after : List ℕ) (run : Run) (o : Operand) (k k' : SinkState) (result : Result (Unit {0}) Failed) (a : ℕ) → Ok a ≡ operand_value (world_after run.history) o
+    → SoFar [] run (all_happen run (vfree_acts (world_after run.history) a)) next after k k' result → RunsLine next after run (command.Vfree o) k k' result
+gives next after run o k k' result a e s =
+    let w = world_after run.history in
+    ran next after run _ (command.Vfree o) k k' result (vfree_acts w a) s (ap (λ (r : Result ℕ Refusal). then_do r (λ x. Ok (vfree_acts w x))) (sym e)) refl
+    (ap (λ (r : Result ℕ Refusal). behind_acts run (command.Vfree o) (then_do r (λ x. Ok (vfree_acts w x)))) (sym e)
+    ∙ gives_acts run o a (slot_of_area w.used a))
 
 -- acts in two parts
-pub happen_append : (words : ℕ) (h : History) (xs ys : List Act) → all_happen words h (xs ++ ys) ≡ all_happen words (all_happen words h xs) ys
-happen_append words h [] ys = refl
-happen_append words h (x ∷ xs) ys = happen_append words (happens words h x) xs ys
+pub happen_append : (run : Run) (xs ys : List Act) → all_happen run (xs ++ ys) ≡ all_happen (all_happen run xs) ys
+happen_append run [] ys = refl
+happen_append run (x ∷ xs) ys = happen_append (happens run x) xs ys
 
 -- the request of a line is the act that its register is for
 asked_for : (w : World) (r : Option RegName) (a b : Act) → Ok (a ∷ []) ≡ for_register w r b → a ≡ b

@@ -10,21 +10,19 @@ use Rattle.km_core.specs.declared.settings.Settings.{Settings}
 use Rattle.km_laws.specs.Placed.{BlockPlaced, InMemory, WholeWords}
 use Rattle.km_laws.proofs.Laws.{all_is_placed}
 use Rattle.km_model.specs.Placement.{Allocation}
-use Rattle.km_model.specs.History.{History}
-use Rattle.km_model.specs.Follows.{past_of}
-use Rattle.km_model.specs.Memory.{memory_after}
+use Rattle.km_model.specs.Follows.{Run, past_of}
 use Rattle.km_model.specs.Output.{listing_text}
 use Rattle.km_model.specs.Past.{world}
 use Rattle.km_model.specs.Text.{entry}
 use Rattle.km_model.proofs.Lists.{Each, each_in, find_each, in_each, map_in}
-use Rattle.km_model.proofs.MemoryLaws.{length-memory_after}
 use Rattle.km_record.specs.declared.kinds.RecId.{RecId}
 use Rattle.km_scan.proofs.Held.{found_any}
 use Rattle.km_state.specs.State.{Tracked, blocks_in, is_listed_now, listing_in}
 use Rattle.km_state.proofs.StandsLaws.{listing_stands}
 use Rattle.km_track.specs.Tracker.{AreRising, Live, Tracker, id_of, is_id, is_live, live_with, tracked_in}
-use Rattle.km_track.proofs.Lives.{finds_it, has_its, not_before}
+use Rattle.km_track.proofs.Lives.{finds_it}
 use Rattle.km_verdict.specs.Listing.{behind, listed_in}
+use Rattle.km_verdict.proofs.Listings.{behind_its}
 use Rattle.km_machine.specs.Machines.{For}
 use Rattle.km_machine.proofs.Pieces.{Stops, stops_behind, stops_early}
 
@@ -65,11 +63,6 @@ finds_none now memory (l ∷ ls) e =
       | true ↦ λ f. absurd (let z : ⊥ = cc in z)
       | false ↦ λ f. finds_none now memory ls f
     ] e
-
--- what is registered behind a block among the live ones
-behind_its : (low high : ℕ) (front more : List Live) (l : Live) → AreRising low (front ++ l ∷ more) high → behind (id_of l) (front ++ l ∷ more) ≡ more
-behind_its low high [] more l r = rw (has_its l) refl
-behind_its low high (x ∷ front) more l r = rw (not_before low high x l front more r) (behind_its (x.tracked.block.id + 1) high front more l r.1)
 
 -- a walk over the listed blocks: what it has passed by and the rest, and what it wrote, where the blocks lie in the memory
 pub record Listing (t : Tracker) (now : ℕ) (memory : List ℕ) (k k' : SinkState) (next : Option RecId) : Type 0 where
@@ -163,25 +156,27 @@ pub listing_ends : (t : Tracker) (now : ℕ) (memory : List ℕ) (k k' : SinkSta
 listing_ends t now memory k k' next w e all =
     subst (λ xs. Wrote k k' xs) (sym (w.text ∙ ap (λ xs. w.done ++ xs) (finds_none now memory w.rest (sym e ∙ w.at)) ∙ append-nil w.done)) (w.wrote all)
 
--- what a machine's listed blocks print is what a read of its history prints
-pub listing_is : (core : Seen) (memory : List ℕ) (h : History) → For core memory h → entries core.parts.settings.now memory core.parts.objects.tracker.live ≡ listing_text core.parts.words h
-listing_is core memory h f =
+-- what a machine's listed blocks print is what a read of its run prints
+pub listing_is : (core : Seen) (told : List ℕ) (run : Run) → For core told run → entries core.parts.settings.now told core.parts.objects.tracker.live ≡ listing_text run.memory run.history
+listing_is core told run f =
     let history = f.stands.history in
-    let now : core.parts.settings.now ≡ (world (past_of h)).now = sym (ap (λ (s : Settings). s.now) f.stands.parts.hosts.settings) ∙ history.moment in
-    ap (λ n. entries n memory core.parts.objects.tracker.live) now ∙ ap (λ m. entries (world (past_of h)).now m core.parts.objects.tracker.live) f.memory
-    ∙ ap (flat_map (entry (world (past_of h)).now (memory_after core.parts.words h))) (sym (ap listing_in f.stands.parts.objects.tracked) ∙ listing_stands core.parts.words h f.state history)
+    let w = world (past_of run.history) in
+    let now : core.parts.settings.now ≡ w.now = sym (ap (λ (s : Settings). s.now) f.stands.parts.hosts.settings) ∙ history.moment in
+    ap (λ n. entries n told core.parts.objects.tracker.live) now ∙ ap (λ m. entries w.now m core.parts.objects.tracker.live) f.memory
+    ∙ ap (flat_map (entry w.now run.memory)) (sym (ap listing_in f.stands.parts.objects.tracked) ∙ listing_stands core.parts.words run.history f.state history)
 
 -- its blocks lie in its memory
-pub all_lie : (core : Seen) (memory : List ℕ) (h : History) → For core memory h → LieIn (length memory) core.parts.objects.tracker.live
-all_lie core memory h f =
+pub all_lie : (core : Seen) (told : List ℕ) (run : Run) → For core told run → LieIn (length told) core.parts.objects.tracker.live
+all_lie core told run f =
     let t = core.parts.objects.tracker in
-    let blocks : blocks_in (tracked_in t) ≡ (world (past_of h)).blocks = sym (ap blocks_in f.stands.parts.objects.tracked) ∙ f.stands.history.blocks in
-    let placed = all_is_placed core.parts.words h f.size f.stands.follows in
-    let size : length memory ≡ core.parts.words = ap length f.memory ∙ length-memory_after core.parts.words h in
-    let each = subst (λ bs. Each (BlockPlaced (world (past_of h)).used) bs) (sym blocks) placed.blocks in
-    in_each (λ (l : Live). InMemory (length memory) l.tracked.block.start l.tracked.block.size) t.live (λ l i.
-    let b = each_in (BlockPlaced (world (past_of h)).used) (blocks_in (tracked_in t)) l.tracked.block each (map_in (λ (u : Tracked). u.block) (tracked_in t) l.tracked (map_in (λ (x : Live). x.tracked) t.live l i)) in
+    let w = world (past_of run.history) in
+    let blocks : blocks_in (tracked_in t) ≡ w.blocks = sym (ap blocks_in f.stands.parts.objects.tracked) ∙ f.stands.history.blocks in
+    let placed = all_is_placed core.parts.words run.history f.size f.stands.follows in
+    let size : length told ≡ core.parts.words = f.whole in
+    let each = subst (λ bs. Each (BlockPlaced w.used) bs) (sym blocks) placed.blocks in
+    in_each (λ (l : Live). InMemory (length told) l.tracked.block.start l.tracked.block.size) t.live (λ l i.
+    let b = each_in (BlockPlaced w.used) (blocks_in (tracked_in t)) l.tracked.block each (map_in (λ (u : Tracked). u.block) (tracked_in t) l.tracked (map_in (λ (x : Live). x.tracked) t.live l i)) in
     let x = b.0 in
-    let inside = (each_in (λ (y : Allocation). (0 < y.size) × InMemory core.parts.words y.start y.size × WholeWords y.start y.size) (world (past_of h)).used x placed.allocations b.1).1 in
+    let inside = (each_in (λ (y : Allocation). (0 < y.size) × InMemory core.parts.words y.start y.size × WholeWords y.start y.size) w.used x placed.allocations b.1).1 in
     let from = inside.0 in let to = inside.1 in let low = b.3 in let high = b.4 in
     (omega (arith, from, low), omega (arith, to, high, size)))

@@ -16,7 +16,7 @@ use Rattle.km_model.specs.Memory.{base, words_from}
 use Rattle.km_model.specs.Placement.{Allocation, HeadBlock, Use, pages_for, slot_of_area, area_place, head_with, lowest_slot, kmalloc_place, kmalloc_span, kmalloc_use}
 use Rattle.km_model.specs.Changes.{world_after_act}
 use Rattle.km_model.specs.Answers.{answer, at_place, is_bad_size, unless}
-use Rattle.km_model.specs.Follows.{FollowsMemory, all_happen, happens, past_of, told_answer}
+use Rattle.km_model.specs.Follows.{Run, Follows, all_happen, happens, past_of}
 use Rattle.km_model.specs.Expansion.{head_stores, slot_word, stores_from}
 use Rattle.km_model.proofs.Lists.{each_in, each_weaker, in_push_right}
 use Rattle.km_laws.specs.Placed.{InMemory, WholeWords}
@@ -55,27 +55,27 @@ sized : (limit asked start : ℕ) (x : Answer) (b : Bool) → is_bad_size limit 
 sized limit asked start x true size e = absurd (let z : ⊥ = cc in z)
 sized limit asked start x false size e = grind (arith, nat_tests)
 
-asked_few : (words asked start : ℕ) (h : History) → At start ≡ told_answer words h (act.Kmalloc asked) → asked ≤ 32768
+asked_few : (words asked start value : ℕ) (h : History) → At start ≡ answer words (past_of h) (act.Kmalloc asked) value → asked ≤ 32768
 unfolding answer
-asked_few words asked start h e = sized 32768 asked start (at_place (kmalloc_place words (world (past_of h)).used asked)) (is_bad_size 32768 asked) refl e
+asked_few words asked start value h e = sized 32768 asked start (at_place (kmalloc_place words (world (past_of h)).used asked)) (is_bad_size 32768 asked) refl e
 
-area_few : (words asked start : ℕ) (h : History) → At start ≡ told_answer words h (act.VmTake asked) → asked ≤ 1048576
+area_few : (words asked start value : ℕ) (h : History) → At start ≡ answer words (past_of h) (act.VmTake asked) value → asked ≤ 1048576
 unfolding answer
-area_few words asked start h e = sized 1048576 asked start
+area_few words asked start value h e = sized 1048576 asked start
     (unless (lowest_slot (world (past_of h)).used == 512) NoSlot (at_place (area_place words (world (past_of h)).used asked))) (is_bad_size 1048576 asked) refl e
 
-pub area_asked : (core : Seen) (memory : List ℕ) (h : History) (asked start : ℕ) → For core memory h → Gave (act.VmTake asked) start h → asked ≤ 1048576
-area_asked core memory h asked start f b = area_few core.parts.words asked start b.before ((subst (λ x. FollowsMemory core.parts.words x) b.newest f.follows).0)
+pub area_asked : (core : Seen) (told : List ℕ) (run : Run) (asked start : ℕ) → For core told run → Gave (act.VmTake asked) start run.history → asked ≤ 1048576
+area_asked core told run asked start f b = area_few core.parts.words asked start 0 b.before ((subst (λ x. Follows core.parts.words x) b.newest f.stands.follows).0)
 
 pub record Within (words asked start : ℕ) : Type 0 where
   pub end : start + kmalloc_span asked ≤ base + 8 * words
   pub few : asked ≤ 32768
   pub memory : words ≤ 4194304
 
-pub block_in : (core : Seen) (memory : List ℕ) (h : History) (asked start : ℕ) → For core memory h → Gave (act.Kmalloc asked) start h → Within core.parts.words asked start
-block_in core memory h asked start f b = record {
-  end = block_within core.parts.words asked start b.before (subst (λ x. IsPlaced core.parts.words (world (past_of x))) b.newest (all_is_placed core.parts.words h f.size f.stands.follows));
-  few = asked_few core.parts.words asked start b.before ((subst (λ x. FollowsMemory core.parts.words x) b.newest f.follows).0);
+pub block_in : (core : Seen) (told : List ℕ) (run : Run) (asked start : ℕ) → For core told run → Gave (act.Kmalloc asked) start run.history → Within core.parts.words asked start
+block_in core told run asked start f b = record {
+  end = block_within core.parts.words asked start b.before (subst (λ x. IsPlaced core.parts.words (world (past_of x))) b.newest (all_is_placed core.parts.words run.history f.size f.stands.follows));
+  few = asked_few core.parts.words asked start 0 b.before ((subst (λ x. Follows core.parts.words x) b.newest f.stands.follows).0);
   memory = f.size.1;
 }
 
@@ -83,17 +83,17 @@ block_in core memory h asked start f b = record {
 abbrev pub zeros : ℕ → ℕ → List Act
 zeros start n = map (λ b. act.Store b 0) (words_from n start)
 
-one_zero : (words : ℕ) (h : History) (n start : ℕ) → happens words (all_happen words h (zeros start n)) (act.Store (start + 8 * n) 0) ≡ all_happen words h (zeros start (suc n))
-one_zero words h zero start = let e : start + 8 * 0 ≡ start = omega arith in ap (λ a. happens words h (act.Store a 0)) e
-one_zero words h (suc n) start =
-    (let e : start + 8 * suc n ≡ (start + 8) + 8 * n = omega arith in ap (λ a. happens words (all_happen words h (zeros start (suc n))) (act.Store a 0)) e)
-    ∙ one_zero words (happens words h (act.Store start 0)) n (start + 8)
+one_zero : (run : Run) (n start : ℕ) → happens (all_happen run (zeros start n)) (act.Store (start + 8 * n) 0) ≡ all_happen run (zeros start (suc n))
+one_zero run zero start = let e : start + 8 * 0 ≡ start = omega arith in ap (λ a. happens run (act.Store a 0)) e
+one_zero run (suc n) start =
+    (let e : start + 8 * suc n ≡ (start + 8) + 8 * n = omega arith in ap (λ a. happens (all_happen run (zeros start (suc n))) (act.Store a 0)) e)
+    ∙ one_zero (happens run (act.Store start 0)) n (start + 8)
 
 -- so many words of a block were cleared
 pub record Cleared (asked start n : ℕ) (core next : Seen) (memory after : List ℕ) (k' k'' : SinkState) (written result : Result (Unit {0}) Failed) : Type 0 where
   pub spent : Spent core next memory after n 0
-  pub so_far : (words : ℕ) (word : List ℕ) (first h : History) (k : SinkState) → Gave (act.Kmalloc asked) start h → SoFar words word first h core memory k k' written
-      → SoFar words word first (all_happen words h (zeros start n)) next after k k'' result
+  pub so_far : (word : List ℕ) (first run : Run) (k : SinkState) → Gave (act.Kmalloc asked) start run.history → SoFar word first run core memory k k' written
+      → SoFar word first (all_happen run (zeros start n)) next after k k'' result
 
 -- one event more
 spent_on : (core next third : Seen) (memory after last : List ℕ) (n : ℕ) → Spent core next memory after n 0 → Spent next third after last 1 0 → Spent core third memory last (n + 1) 0
@@ -110,16 +110,16 @@ word_address words asked start n w low = (let a = w.end in let b = w.memory in g
 
 pub one_cleared : (asked start n w : ℕ) (core next third : Seen) (memory after last : List ℕ) (k' k'' k''' : SinkState) (written between result : Result (Unit {0}) Failed)
     → Cleared asked start n core next memory after k' k'' written between → (asked ≤ 32768 → n < kmalloc_span asked / 8) → w ≡ (start + 8 * n) % 2 ^ 64
-    → ((words : ℕ) (word : List ℕ) (first h : History) (k : SinkState) → SoFar words word first h next after k k'' between → SoFar words word first (happens words h (act.Store w 0)) third last k k''' result)
+    → ((word : List ℕ) (first run : Run) (k : SinkState) → SoFar word first run next after k k'' between → SoFar word first (happens run (act.Store w 0)) third last k k''' result)
     → Spent next third after last 1 0 → Cleared asked start (n + 1) core third memory last k' k''' written result
 one_cleared asked start n w core next third memory after last k' k'' k''' written between result cleared low is more spent = record {
   spent = spent_on core next third memory after last n cleared.spent spent;
-  so_far = λ words word first h k block s.
-      let within = block_in core memory h asked start s.stands block in
+  so_far = λ word first run k block s.
+      let within = block_in core memory run asked start s.stands block in
       let address = is ∙ word_address core.parts.words asked start n within (low within.few) in
-      let next_is : happens words (all_happen words h (zeros start n)) (act.Store w 0) ≡ all_happen words h (zeros start (n + 1)) =
-      ap (λ a. happens words (all_happen words h (zeros start n)) (act.Store a 0)) address ∙ one_zero words h n start ∙ (let e : suc n ≡ n + 1 = omega arith in ap (λ m. all_happen words h (zeros start m)) e) in
-      subst (λ x. SoFar words word first x third last k k''' result) next_is (more words word first (all_happen words h (zeros start n)) k (cleared.so_far words word first h k block s));
+      let next_is : happens (all_happen run (zeros start n)) (act.Store w 0) ≡ all_happen run (zeros start (n + 1)) =
+      ap (λ a. happens (all_happen run (zeros start n)) (act.Store a 0)) address ∙ one_zero run n start ∙ (let e : suc n ≡ n + 1 = omega arith in ap (λ m. all_happen run (zeros start m)) e) in
+      subst (λ x. SoFar word first x third last k k''' result) next_is (more word first (all_happen run (zeros start n)) k (cleared.so_far word first run k block s));
 }
 
 -- the head of a live area lies in the memory
@@ -135,52 +135,52 @@ head_holds : (P : ℕ → Type 0) (used : List Allocation) (s head : ℕ) → Ea
 head_holds P [] s head each e = absurd (let z : ⊥ = cc in z)
 head_holds P (x ∷ used) s head each e = head_step P x.«use» s x.start head (head_with used s) each.0 (head_holds P used s head each.1) e
 
-pub head_low : (core : Seen) (memory : List ℕ) (h : History) (s head : ℕ) → For core memory h → head_with (world (past_of h)).used s ≡ Some head → head + 64 ≤ 2 ^ 64
-head_low core memory h s head f e =
-    head_holds (λ a. a + 64 ≤ 2 ^ 64) (world (past_of h)).used s head
+pub head_low : (core : Seen) (memory : List ℕ) (run : Run) (s head : ℕ) → For core memory run → head_with (world (past_of run.history)).used s ≡ Some head → head + 64 ≤ 2 ^ 64
+head_low core memory run s head f e =
+    head_holds (λ a. a + 64 ≤ 2 ^ 64) (world (past_of run.history)).used s head
     (each_weaker (λ (x : Allocation). (0 < x.size) × InMemory core.parts.words x.start x.size × WholeWords x.start x.size) (λ (x : Allocation). x.start + 64 ≤ 2 ^ 64)
-    (λ x p. let a = p.1.1 in let b = f.size.1 in omega (arith, a, b)) (world (past_of h)).used (all_is_placed core.parts.words h f.size f.stands.follows).allocations) e
+    (λ x p. let a = p.1.1 in let b = f.size.1 in omega (arith, a, b)) (world (past_of run.history)).used (all_is_placed core.parts.words run.history f.size f.stands.follows).allocations) e
 
 -- so many values were stored
 pub record Filled (start : ℕ) (values : List ℕ) (n : ℕ) (core next : Seen) (memory after : List ℕ) (k' k'' : SinkState) (written result : Result (Unit {0}) Failed) : Type 0 where
   pub spent : Spent core next memory after n 0
-  pub so_far : (words : ℕ) (word : List ℕ) (first h : History) (k : SinkState) → start + 64 ≤ 2 ^ 64 → SoFar words word first h core memory k k' written
-      → SoFar words word first (all_happen words h (stores_from start (take n values))) next after k k'' result
+  pub so_far : (word : List ℕ) (first run : Run) (k : SinkState) → start + 64 ≤ 2 ^ 64 → SoFar word first run core memory k k' written
+      → SoFar word first (all_happen run (stores_from start (take n values))) next after k k'' result
 
-one_store : (words : ℕ) (h : History) (n start : ℕ) (values : List ℕ) → n < length values
-    → happens words (all_happen words h (stores_from start (take n values))) (act.Store (start + 8 * n) (get_or values n 0)) ≡ all_happen words h (stores_from start (take (suc n) values))
-one_store words h n start [] low = absurd (omega (arith, low))
-one_store words h zero start (v ∷ vs) low = let e : start + 8 * 0 ≡ start = omega arith in ap (λ a. happens words h (act.Store a v)) e
-one_store words h (suc n) start (v ∷ vs) low =
-    (let e : start + 8 * suc n ≡ (start + 8) + 8 * n = omega arith in ap (λ a. happens words (all_happen words h (stores_from start (take (suc n) (v ∷ vs)))) (act.Store a (get_or vs n 0))) e)
-    ∙ one_store words (happens words h (act.Store start v)) n (start + 8) vs (omega (arith, low))
+one_store : (run : Run) (n start : ℕ) (values : List ℕ) → n < length values
+    → happens (all_happen run (stores_from start (take n values))) (act.Store (start + 8 * n) (get_or values n 0)) ≡ all_happen run (stores_from start (take (suc n) values))
+one_store run n start [] low = absurd (omega (arith, low))
+one_store run zero start (v ∷ vs) low = let e : start + 8 * 0 ≡ start = omega arith in ap (λ a. happens run (act.Store a v)) e
+one_store run (suc n) start (v ∷ vs) low =
+    (let e : start + 8 * suc n ≡ (start + 8) + 8 * n = omega arith in ap (λ a. happens (all_happen run (stores_from start (take (suc n) (v ∷ vs)))) (act.Store a (get_or vs n 0))) e)
+    ∙ one_store (happens run (act.Store start v)) n (start + 8) vs (omega (arith, low))
 
 pub one_filled : (start : ℕ) (values : List ℕ) (n w : ℕ) (core next third : Seen) (memory after last : List ℕ) (k' k'' k''' : SinkState) (written between result : Result (Unit {0}) Failed)
     → length values ≤ 8 → n < length values → Filled start values n core next memory after k' k'' written between → w ≡ (start + 8 * n) % 2 ^ 64
-    → ((words : ℕ) (word : List ℕ) (first h : History) (k : SinkState) → SoFar words word first h next after k k'' between → SoFar words word first (happens words h (act.Store w (get_or values n 0))) third last k k''' result)
+    → ((word : List ℕ) (first run : Run) (k : SinkState) → SoFar word first run next after k k'' between → SoFar word first (happens run (act.Store w (get_or values n 0))) third last k k''' result)
     → Spent next third after last 1 0 → Filled start values (n + 1) core third memory last k' k''' written result
 one_filled start values n w core next third memory after last k' k'' k''' written between result few low filled is more spent = record {
   spent = spent_on core next third memory after last n filled.spent spent;
-  so_far = λ words word first h k end s.
+  so_far = λ word first run k end s.
       let small : start + 8 * n < 2 ^ 64 = omega (arith, few, low, end) in
       let address : w ≡ start + 8 * n = is ∙ mod-eq_of_lt small in
-      let next_is : happens words (all_happen words h (stores_from start (take n values))) (act.Store w (get_or values n 0)) ≡ all_happen words h (stores_from start (take (n + 1) values)) =
-      ap (λ a. happens words (all_happen words h (stores_from start (take n values))) (act.Store a (get_or values n 0))) address ∙ one_store words h n start values low
-      ∙ (let e : suc n ≡ n + 1 = omega arith in ap (λ m. all_happen words h (stores_from start (take m values))) e) in
-      subst (λ x. SoFar words word first x third last k k''' result) next_is (more words word first (all_happen words h (stores_from start (take n values))) k (filled.so_far words word first h k end s));
+      let next_is : happens (all_happen run (stores_from start (take n values))) (act.Store w (get_or values n 0)) ≡ all_happen run (stores_from start (take (n + 1) values)) =
+      ap (λ a. happens (all_happen run (stores_from start (take n values))) (act.Store a (get_or values n 0))) address ∙ one_store run n start values low
+      ∙ (let e : suc n ≡ n + 1 = omega arith in ap (λ m. all_happen run (stores_from start (take m values))) e) in
+      subst (λ x. SoFar word first x third last k k''' result) next_is (more word first (all_happen run (stores_from start (take n values))) k (filled.so_far word first run k end s));
 }
 
 -- a new area's head and slot
 abbrev pub head_values : ℕ → ℕ → List ℕ
 head_values a bytes = 0 ∷ a ∷ bytes ∷ 0 ∷ 0 ∷ 0 ∷ 0 ∷ 0 ∷ []
 
-pub head_made : (P : History → Type 0) (words : ℕ) (w : World) (h : History) (size a slot head : ℕ) → Some slot ≡ slot_of_area w.used a → head_with w.used slot ≡ Some head
-    → P (happens words (all_happen words h (stores_from head (head_values a (4096 * pages_for size)))) (act.Store (slot_word slot) head)) → P (all_happen words h (head_stores w size a))
-head_made P words w h size a slot head slot_is head_is p =
+pub head_made : (P : Run → Type 0) (w : World) (run : Run) (size a slot head : ℕ) → Some slot ≡ slot_of_area w.used a → head_with w.used slot ≡ Some head
+    → P (happens (all_happen run (stores_from head (head_values a (4096 * pages_for size)))) (act.Store (slot_word slot) head)) → P (all_happen run (head_stores w size a))
+head_made P w run size a slot head slot_is head_is p =
     let values = head_values a (4096 * pages_for size) in
-    subst (λ o. P (all_happen words h (elim o as (λ _. List Act) [
+    subst (λ o. P (all_happen run (elim o as (λ _. List Act) [
       | None ↦ []
       | Some s ↦ elim (head_with w.used s) as (λ _. List Act) [ None ↦ [] | Some b ↦ stores_from b values ++ act.Store (slot_word s) b ∷ [] ]
     ]))) slot_is
-    (subst (λ o. P (all_happen words h (elim o as (λ _. List Act) [ None ↦ [] | Some b ↦ stores_from b values ++ act.Store (slot_word slot) b ∷ [] ]))) (sym head_is)
-    (subst P (sym (happen_append words h (stores_from head values) (act.Store (slot_word slot) head ∷ []))) p))
+    (subst (λ o. P (all_happen run (elim o as (λ _. List Act) [ None ↦ [] | Some b ↦ stores_from b values ++ act.Store (slot_word slot) b ∷ [] ]))) (sym head_is)
+    (subst P (sym (happen_append run (stores_from head values) (act.Store (slot_word slot) head ∷ []))) p))

@@ -5,9 +5,8 @@ use Rattle.km_base.specs.declared.acts.Answer.{Answer}
 use Rattle.km_edge.specs.declared.errors.Failed.{Failed}
 use Rattle.km_edge.specs.Streams.{SinkState, WritesAll}
 use Rattle.km_edge.proofs.Writing.{wrote_none}
-use Rattle.km_model.specs.History.{History}
-use Rattle.km_model.specs.Follows.{Follows, happens}
-use Rattle.km_model.specs.Expansion.{due_by, history_at, world_after}
+use Rattle.km_model.specs.Follows.{Run, Follows, happens}
+use Rattle.km_model.specs.Expansion.{due_by, run_at, world_after}
 use Rattle.km_core.specs.Cores.{Seen}
 use Rattle.km_core.specs.declared.settings.Settings.{Settings}
 use Rattle.km_machine.specs.Machines.{For}
@@ -17,28 +16,28 @@ use Rattle.km_laws.proofs.Since.{follows_answered}
 use Rattle.km_machine.proofs.Timely.{scan_paced}
 
 -- the moment of a core
-pub now_is : (core : Seen) (memory : List ℕ) (h : History) → For core memory h → (world_after h).now ≡ core.parts.settings.now
-now_is core memory h stands = sym stands.stands.history.moment ∙ ap (λ (q : Settings). q.now) stands.stands.parts.hosts.settings
+pub now_is : (core : Seen) (told : List ℕ) (run : Run) → For core told run → (world_after run.history).now ≡ core.parts.settings.now
+now_is core told run stands = sym stands.stands.history.moment ∙ ap (λ (q : Settings). q.now) stands.stands.parts.hosts.settings
 
 -- so many automatic scans were made, each but the first a second behind the last at least
-pub record Pacing (core : Seen) (memory : List ℕ) (words target : ℕ) (h : History) (made : ℕ) (k k' : SinkState) (written : Result (Unit {0}) Failed) : Type 0 where
-  pub behind : History
-  pub over : (h' : History) → ReachesOver words target behind h' → ReachesOver words target h h'
-  pub stands : For core memory behind
+pub record Pacing (core : Seen) (told : List ℕ) (target : ℕ) (run : Run) (made : ℕ) (k k' : SinkState) (written : Result (Unit {0}) Failed) : Type 0 where
+  pub behind : Run
+  pub over : (run' : Run) → ReachesOver target behind run' → ReachesOver target run run'
+  pub stands : For core told behind
   pub text : List ℕ
-  pub goes : GoesOn words h text behind
+  pub goes : GoesOn run.history text behind.history
   pub wrote : WritesAll k k' text written
-  pub since : (world_after h).now ≤ (world_after behind).now
-  pub paced : (world_after h).now + 1000 * made ≤ (world_after behind).now + 1000
-  pub next : 0 < made → (m : ℕ) → (world_after behind).due ≡ Some m → (world_after behind).now + 1000 ≤ m
+  pub since : (world_after run.history).now ≤ (world_after behind.history).now
+  pub paced : (world_after run.history).now + 1000 * made ≤ (world_after behind.history).now + 1000
+  pub next : 0 < made → (m : ℕ) → (world_after behind.history).due ≡ Some m → (world_after behind.history).now + 1000 ≤ m
 
-pub pacing_none : (core : Seen) (memory : List ℕ) (target : ℕ) (h : History) (k : SinkState) → For core memory h → Pacing core memory core.parts.words target h 0 k k (Ok tt)
-pacing_none core memory target h k stands = record {
-  behind = h;
-  over = λ h' r. r;
+pub pacing_none : (core : Seen) (told : List ℕ) (target : ℕ) (run : Run) (k : SinkState) → For core told run → Pacing core told target run 0 k k (Ok tt)
+pacing_none core told target run k stands = record {
+  behind = run;
+  over = λ run' r. r;
   stands = stands;
   text = [];
-  goes = goes_none core.parts.words h;
+  goes = goes_none run.history;
   wrote = wrote_none k;
   since = omega arith;
   paced = omega arith;
@@ -59,41 +58,41 @@ a_second_on zero start now later due is since paced far = omega (arith, is, sinc
 a_second_on (suc n) start now later due is since paced far = let second = far (omega arith) in omega (arith, is, paced, second)
 
 -- one more
-pub pacing_more : (core next : Seen) (memory after : List ℕ) (words target : ℕ) (h : History) (made : ℕ) (k k' k'' : SinkState) (written written' : Result (Unit {0}) Failed) (due : ℕ) (last : Answer)
-    → core.parts.words ≡ words
-    → (s : Pacing core memory words target h made k k' written)
-    → due_by target (world_after s.behind) ≡ Some due
-    → ((b : History) → For core memory b → Scanned next after core.parts.words b (happens core.parts.words (history_at core.parts.words b due) AutoBegin) last)
+pub pacing_more : (core next : Seen) (told after : List ℕ) (target : ℕ) (run : Run) (made : ℕ) (k k' k'' : SinkState) (written written' : Result (Unit {0}) Failed) (due : ℕ) (last : Answer)
+    → (s : Pacing core told target run made k k' written)
+    → due_by target (world_after s.behind.history) ≡ Some due
+    → ((b : Run) → For core told b → Scanned next after b.history (happens (run_at b due) AutoBegin) last)
     → ((text : List ℕ) → WritesAll k k' text written → WritesAll k k'' (text ++ shown last) written')
-    → Pacing next after words target h (made + 1) k k'' written'
-pacing_more core next memory after words target h made k k' k'' written written' due last same s is_due scanned writes =
-    let scan = subst (λ w. Scanned next after w s.behind (happens w (history_at w s.behind due) AutoBegin) last) same (scanned s.behind s.stands) in
-    let due_then = due_is target (world_after s.behind).due due is_due in
-    let pace = scan_paced words s.behind scan.behind due (follows_answered words s.behind (subst (λ w. Follows w s.behind) same s.stands.stands.follows)) due_then scan.makes in
+    → Pacing next after target run (made + 1) k k'' written'
+pacing_more core next told after target run made k k' k'' written written' due last s is_due scanned writes =
+    let scan = scanned s.behind s.stands in
+    let due_then = due_is target (world_after s.behind.history).due due is_due in
+    let follows = subst (λ w. Follows w s.behind.history) (sym s.stands.words) s.stands.stands.follows in
+    let pace = scan_paced s.behind scan.behind due (follows_answered s.behind.words s.behind.history follows) due_then scan.makes in
     let now = pace.now in let since = s.since in
     record {
       behind = scan.behind;
-      over = λ h' r. s.over h' (suc r.0, (due, is_due, scan.behind, scan.makes, r.1));
+      over = λ run' r. s.over run' (suc r.0, (due, is_due, scan.behind, scan.makes, r.1));
       stands = scan.stands;
       text = s.text ++ shown last;
-      goes = goes_more words h s.behind scan.behind s.text (shown last) s.goes scan.goes;
+      goes = goes_more run.history s.behind.history scan.behind.history s.text (shown last) s.goes scan.goes;
       wrote = writes s.text s.wrote;
       since = omega (arith, now, since);
-      paced = a_second_on made (world_after h).now (world_after s.behind).now (world_after scan.behind).now due pace.now s.since s.paced (λ some. s.next some due due_then);
+      paced = a_second_on made (world_after run.history).now (world_after s.behind.history).now (world_after scan.behind.history).now due pace.now s.since s.paced (λ some. s.next some due due_then);
       next = λ _. pace.next;
     }
 
 -- an hour has no more
-pub paced_out : (core : Seen) (memory : List ℕ) (words target : ℕ) (h : History) (made start : ℕ) (k k' : SinkState) (written : Result (Unit {0}) Failed)
-    → Pacing core memory words target h made k k' written → 3602 ≤ made → (world_after h).now ≡ start → target ≤ start + 3600000 → core.parts.settings.now ≤ target
-    → ScansUntil core memory words target h k k' written
-paced_out core memory words target h made start k k' written s many begin hour ahead =
-    let now = now_is core memory s.behind s.stands in let paced = s.paced in absurd (omega (arith, now, paced, many, begin, hour, ahead))
+pub paced_out : (core : Seen) (told : List ℕ) (target : ℕ) (run : Run) (made start : ℕ) (k k' : SinkState) (written : Result (Unit {0}) Failed)
+    → Pacing core told target run made k k' written → 3602 ≤ made → (world_after run.history).now ≡ start → target ≤ start + 3600000 → core.parts.settings.now ≤ target
+    → ScansUntil core told target run k k' written
+paced_out core told target run made start k k' written s many begin hour ahead =
+    let now = now_is core told s.behind s.stands in let paced = s.paced in absurd (omega (arith, now, paced, many, begin, hour, ahead))
 
 -- none is due any more
-pub paced_until : (core : Seen) (memory : List ℕ) (words target : ℕ) (h : History) (made : ℕ) (k k' : SinkState) (written : Result (Unit {0}) Failed)
-    → (s : Pacing core memory words target h made k k' written) → due_by target (world_after s.behind) ≡ None → ScansUntil core memory words target h k k' written
-paced_until core memory words target h made k k' written s none = record {
+pub paced_until : (core : Seen) (told : List ℕ) (target : ℕ) (run : Run) (made : ℕ) (k k' : SinkState) (written : Result (Unit {0}) Failed)
+    → (s : Pacing core told target run made k k' written) → due_by target (world_after s.behind.history) ≡ None → ScansUntil core told target run k k' written
+paced_until core told target run made k k' written s none = record {
   behind = s.behind;
   over = s.over;
   none_due = ap is_none none;

@@ -17,8 +17,8 @@ use Rattle.km_model.specs.Past.{is_refused, running_scan}
 use Rattle.km_model.specs.Changes.{world_after_event, world_after_act, world_after_word, world_after_exit, with_vmalloc, world_after_vfree, world_without, world_without_part}
 use Rattle.km_model.specs.Answers.{answer, unless}
 use Rattle.km_model.specs.Verdict.{listing_ids}
-use Rattle.km_model.specs.Follows.{happens, past_of, told_answer}
-use Rattle.km_model.specs.Expansion.{Finishes, ScansIfBegun, history_at, newest_is_done, newest_is_loaded, steps, world_after}
+use Rattle.km_model.specs.Follows.{Run, happens, past_of, told_answer}
+use Rattle.km_model.specs.Expansion.{Finishes, ScansIfBegun, run_at, newest_is_done, newest_is_loaded, steps, world_after}
 
 -- automatic scans lie a second apart at least, and are due only while `off` was not written
 pub record Sets (enabled : Bool) (period : ℕ) (due : Option ℕ) : Type 0 where
@@ -128,57 +128,58 @@ same_if : (q : Bool) (w : World) → (if q then w else w) ≡ w
 same_if true w = refl
 same_if false w = refl
 
-step_keeps : (words : ℕ) (h : History) → world_after (happens words h Step) ≡ world_after h
+step_keeps : (run : Run) → world_after (happens run Step).history ≡ world_after run.history
 unfolding world_after_act
-step_keeps words h = same_if (is_refused (told_answer words h Step)) (world_after h)
+step_keeps run = same_if (is_refused (told_answer run Step)) (world_after run.history)
 
-steps_keep : (words n : ℕ) (h : History) → world_after (steps words n h) ≡ world_after h
-steps_keep words zero h = refl
-steps_keep words (suc n) h =
-    let stepped = happens words h Step in
-    elim (newest_is_loaded stepped) as (λ q. world_after (elim q as (λ _. History) [ true ↦ steps words n stepped | false ↦ stepped ]) ≡ world_after h) [
-      | true ↦ steps_keep words n stepped ∙ step_keeps words h
-      | false ↦ step_keeps words h
+steps_keep : (n : ℕ) (run : Run) → world_after (steps n run).history ≡ world_after run.history
+steps_keep zero run = refl
+steps_keep (suc n) run =
+    let stepped = happens run Step in
+    elim (newest_is_loaded stepped.history) as (λ q. world_after (elim q as (λ _. Run) [ true ↦ steps n stepped | false ↦ stepped ]).history ≡ world_after run.history) [
+      | true ↦ steps_keep n stepped ∙ step_keeps run
+      | false ↦ step_keeps run
     ]
 
-scan_keeps : (words : ℕ) (h behind : History) (q : Bool) → MatchBool q (Finishes words h behind) (h ≡ behind) → world_after behind ≡ world_after h
-scan_keeps words h behind true f = ap world_after (sym f.1) ∙ steps_keep words (suc f.0) h
-scan_keeps words h behind false e = ap world_after (sym e)
+scan_keeps : (run behind : Run) (q : Bool) → MatchBool q (Finishes run behind) (run ≡ behind) → world_after behind.history ≡ world_after run.history
+scan_keeps run behind true f = ap (λ (r : Run). world_after r.history) (sym f.1) ∙ steps_keep (suc f.0) run
+scan_keeps run behind false e = ap (λ (r : Run). world_after r.history) (sym e)
 
 -- time moves
-moved : (words : ℕ) (h : History) (m : ℕ) → world_after (history_at words h m) ≡ record (world_after h) { now = (world_after h).now + (m - (world_after h).now) }
+moved : (run : Run) (m : ℕ) → world_after (run_at run m).history ≡ record (world_after run.history) { now = (world_after run.history).now + (m - (world_after run.history).now) }
 unfolding answer world_after_act
-moved words h m = refl
+moved run m = refl
 
 -- an automatic scan is begun, or left out; the next lies a period behind it
-begun : (words : ℕ) (h : History) → (world_after h).enabled ≡ true → world_after (happens words h AutoBegin) ≡ record (world_after h) { due = Some ((world_after h).now + (world_after h).period) }
+begun : (run : Run) → (world_after run.history).enabled ≡ true
+    → world_after (happens run AutoBegin).history ≡ record (world_after run.history) { due = Some ((world_after run.history).now + (world_after run.history).period) }
 unfolding answer world_after_act
-begun words h on = by_enabled (world_after h).enabled on
+begun run on = by_enabled (world_after run.history).enabled on
   where
     by_enabled : (q : Bool) → q ≡ true
-        → (if is_refused (if not q then Refused Disabled else (elim (running_scan (past_of h)) as (λ _. Answer) [ None ↦ Done | Some _ ↦ Skipped ])) then world_after h else record (world_after h) { due = Some ((world_after h).now + (world_after h).period) })
-        ≡ record (world_after h) { due = Some ((world_after h).now + (world_after h).period) }
+        → (if is_refused (if not q then Refused Disabled else (elim (running_scan (past_of run.history)) as (λ _. Answer) [ None ↦ Done | Some _ ↦ Skipped ])) then world_after run.history else record (world_after run.history) { due = Some ((world_after run.history).now + (world_after run.history).period) })
+        ≡ record (world_after run.history) { due = Some ((world_after run.history).now + (world_after run.history).period) }
     by_enabled false e = absurd (let z : ⊥ = cc in z)
     by_enabled true e =
-        elim (running_scan (past_of h)) as (λ o. (if is_refused (elim o as (λ _. Answer) [ None ↦ Done | Some _ ↦ Skipped ]) then world_after h else record (world_after h) { due = Some ((world_after h).now + (world_after h).period) })
-        ≡ record (world_after h) { due = Some ((world_after h).now + (world_after h).period) }) [ None ↦ refl | Some k ↦ refl ]
+        elim (running_scan (past_of run.history)) as (λ o. (if is_refused (elim o as (λ _. Answer) [ None ↦ Done | Some _ ↦ Skipped ]) then world_after run.history else record (world_after run.history) { due = Some ((world_after run.history).now + (world_after run.history).period) })
+        ≡ record (world_after run.history) { due = Some ((world_after run.history).now + (world_after run.history).period) }) [ None ↦ refl | Some k ↦ refl ]
 
 -- when an automatic scan was made, and when the next is due
 pub record Paced (w v : World) (due : ℕ) : Type 0 where
   pub now : v.now ≡ w.now + (due - w.now)
   pub next : (m : ℕ) → v.due ≡ Some m → v.now + 1000 ≤ m
 
-pub scan_paced : (words : ℕ) (h behind : History) (due : ℕ) → IsAnswered words h → (world_after h).due ≡ Some due → ScansIfBegun words (happens words (history_at words h due) AutoBegin) behind
-    → Paced (world_after h) (world_after behind) due
-scan_paced words h behind due follows is scans =
-    let w = world_after h in
-    let h' = history_at words h due in
-    let t = timely words h follows in
-    let on : (world_after h').enabled ≡ true = ap (λ (x : World). x.enabled) (moved words h due) ∙ t.on due is in
-    let after : world_after behind ≡ record w { now = w.now + (due - w.now); due = Some (w.now + (due - w.now) + w.period) } =
-    scan_keeps words (happens words h' AutoBegin) behind (newest_is_done (happens words h' AutoBegin)) scans ∙ begun words h' on
-    ∙ ap (λ (x : World). record x { due = Some (x.now + x.period) }) (moved words h due) in
-    let now : (world_after behind).now ≡ w.now + (due - w.now) = ap (λ (x : World). x.now) after in
+pub scan_paced : (run behind : Run) (due : ℕ) → IsAnswered run.words run.history → (world_after run.history).due ≡ Some due → ScansIfBegun (happens (run_at run due) AutoBegin) behind
+    → Paced (world_after run.history) (world_after behind.history) due
+scan_paced run behind due follows is scans =
+    let w = world_after run.history in
+    let at_due = run_at run due in
+    let t = timely run.words run.history follows in
+    let on : (world_after at_due.history).enabled ≡ true = ap (λ (x : World). x.enabled) (moved run due) ∙ t.on due is in
+    let after : world_after behind.history ≡ record w { now = w.now + (due - w.now); due = Some (w.now + (due - w.now) + w.period) } =
+    scan_keeps (happens at_due AutoBegin) behind (newest_is_done (happens at_due AutoBegin).history) scans ∙ begun at_due on
+    ∙ ap (λ (x : World). record x { due = Some (x.now + x.period) }) (moved run due) in
+    let now : (world_after behind.history).now ≡ w.now + (due - w.now) = ap (λ (x : World). x.now) after in
     record {
       now = now;
       next = λ m e.

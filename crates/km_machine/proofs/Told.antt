@@ -7,12 +7,13 @@ use Rattle.km_base.specs.declared.acts.Answer.TheVariants.{Done, Loaded, Ended, 
 use Rattle.km_base.specs.declared.acts.Refusal.TheVariants.{NoTask, BadAddress, NoScanRunning}
 use Rattle.km_model.specs.Headline.{IsMemorySize}
 use Rattle.km_model.specs.History.{History, value_of}
-use Rattle.km_model.specs.Memory.{in_memory, memory_after, memory_after_act, word_at}
+use Rattle.km_model.specs.Memory.{in_memory, memory_after_act, word_at}
 use Rattle.km_model.specs.Past.{Past, Place, world, running_scan, scans}
 use Rattle.km_model.specs.Scan.{next}
 use Rattle.km_model.specs.Verdict.{new_blocks}
 use Rattle.km_model.specs.Answers.{answer, unless, has_task, loads_from}
-use Rattle.km_model.specs.Follows.{FollowsMemory, past_of, told_answer, told_value, happens}
+use Rattle.km_model.specs.Follows.{Run, past_of, told_answer, told_value, happens}
+use Rattle.km_model.proofs.MemoryLaws.{length-memory_after_act}
 use Rattle.km_state.specs.State.{State}
 use Rattle.km_words.specs.Told.{Told, of_memory}
 use Rattle.km_core.specs.Cores.{Seen, Stands}
@@ -44,16 +45,16 @@ answer_value words p (Load task reg a) v w f = load_value (not (has_task (world 
 answer_value words p Step v w f = step_value p (running_scan p) (next p) v w f
 answer_value words p act v w f = refl
 
--- a load brings the word that was stored last
-pub answer_told : (words : ℕ) (h : History) (act : Act) (given : Answer) (t u : List ℕ) → t ≡ memory_after words h
-    → given ≡ answer words (past_of h) act (value_of given) → Touches act given (of_memory t) (of_memory u) → given ≡ told_answer words h act
-answer_told words h act given t u memory answered touches =
-    answered ∙ answer_value words (past_of h) act (value_of given) (told_value words h act)
+-- a load brings what the word holds
+pub answer_told : (run : Run) (act : Act) (given : Answer) (t u : List ℕ) → t ≡ run.memory
+    → given ≡ answer run.words (past_of run.history) act (value_of given) → Touches act given (of_memory t) (of_memory u) → given ≡ told_answer run act
+answer_told run act given t u memory answered touches =
+    answered ∙ answer_value run.words (past_of run.history) act (value_of given) (told_value run act)
     (λ a loaded from.
     let is : given ≡ Loaded a (value_of given) = answered ∙ loaded in
     let loads = subst (λ x. Touches act x (of_memory t) (of_memory u)) is touches in
     loads.memory ∙ ap (λ m. word_at m a) memory
-    ∙ sym (ap (λ (o : Option ℕ). elim o as (λ _. ℕ) [ None ↦ 0 | Some b ↦ word_at (memory_after words h) b ]) from))
+    ∙ sym (ap (λ (o : Option ℕ). elim o as (λ _. ℕ) [ None ↦ 0 | Some b ↦ word_at run.memory b ]) from))
 
 -- the words of a told memory
 words_of : Told → List ℕ
@@ -68,16 +69,29 @@ memory_told (Store a v) given t u e = ap words_of e
 memory_told act (Loaded b w) t u e = ap words_of e.after
 memory_told act given t u e = ap words_of e
 
+-- an answer of the core, over told words
+pub core_told : (core : Seen) (told after : List ℕ) (run : Run) (act : Act) (given : Answer) → For core told run
+    → given ≡ answer core.parts.words (past_of run.history) act (value_of given) → Touches act given (of_memory told) (of_memory after) → given ≡ told_answer run act
+core_told core told after run act given r answered touches =
+    answer_told run act given told after r.memory (subst (λ n. given ≡ answer n (past_of run.history) act (value_of given)) (sym r.words) answered) touches
+
 -- one act, over told words
-pub act_happens : (core next : Seen) (told after : List ℕ) (h : History) (act : Act) (given : Answer) (s : State) → For core told h
-    → given ≡ answer core.parts.words (past_of h) act (value_of given) → Stands next (record { act = act; answer = given } ∷ h) s
-    → Touches act given (of_memory told) (of_memory after) → next.parts.words ≡ core.parts.words → For next after (happens core.parts.words h act)
-act_happens core next told after h act given s r answered stands touches words =
-    let same = answer_told core.parts.words h act given told after r.memory answered touches in
-    subst (λ x. For next after (record { act = act; answer = x } ∷ h)) same (record {
+pub act_happens : (core next : Seen) (told after : List ℕ) (run : Run) (act : Act) (given : Answer) (s : State) → For core told run
+    → given ≡ answer core.parts.words (past_of run.history) act (value_of given) → Stands next (record { act = act; answer = given } ∷ run.history) s
+    → Touches act given (of_memory told) (of_memory after) → next.parts.words ≡ core.parts.words → For next after (happens run act)
+act_happens core next told after run act given s r answered stands touches words =
+    let stored = memory_told act given told after touches in
+    subst (λ x. For next after (record run { history = record { act = act; answer = x } ∷ run.history; memory = memory_after_act run.memory act x }))
+    (core_told core told after run act given r answered touches) (record {
       size = subst IsMemorySize (sym words) r.size;
+      words = r.words ∙ sym words;
+      whole = ap length stored ∙ length-memory_after_act told act given ∙ r.whole ∙ sym words;
       state = s;
       stands = stands;
-      follows = subst (λ n. FollowsMemory n (record { act = act; answer = given } ∷ h)) (sym words) (same, r.follows);
-      memory = memory_told act given told after touches ∙ ap (λ m. memory_after_act m act given) (r.memory ∙ ap (λ n. memory_after n h) (sym words));
+      memory = stored ∙ ap (λ m. memory_after_act m act given) r.memory;
     })
+
+-- whatever a history stored, a core that stands for it stands with any words, as many as it has, for a run
+pub any_words : (core : Seen) (told : List ℕ) (h : History) (s : State) → Stands core h s → IsMemorySize core.parts.words → length told ≡ core.parts.words
+    → For core told (record { words = core.parts.words; history = h; memory = told })
+any_words core told h s stands size whole = record { size = size; words = refl; whole = whole; state = s; stands = stands; memory = refl }

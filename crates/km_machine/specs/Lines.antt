@@ -7,21 +7,21 @@ use Rattle.km_base.specs.declared.acts.Answer.TheVariants.{At}
 use Rattle.km_base.specs.declared.acts.Refusal.{Refusal}
 use Rattle.km_edge.specs.declared.errors.Failed.{Failed}
 use Rattle.km_edge.specs.Streams.{SinkState, WritesAll}
-use Rattle.km_model.specs.declared.lines.Command.{Command}
-use Rattle.km_model.specs.declared.lines.Command.TheVariants as command
+use Rattle.km_base.specs.declared.lines.Command.{Command}
+use Rattle.km_base.specs.declared.lines.Command.TheVariants as command
 use Rattle.km_model.specs.History.{History}
+use Rattle.km_model.specs.Follows.{Run}
 use Rattle.km_model.specs.Expansion.{Acts, first_acts, world_after}
 use Rattle.km_model.specs.Output.{events_text}
 use Rattle.km_core.specs.Cores.{Seen}
 use Rattle.km_machine.specs.Machines.{For}
 
--- a line that began at one history has led to another, and has written the text of its events, or written it up to a fault
-pub record SoFar (size : ℕ) (word : List ℕ) (first h : History) (core : Seen) (memory : List ℕ) (k k' : SinkState) (written : Result (Unit {0}) Failed) : Type 0 where
-  pub stands : For core memory h
-  pub words : core.parts.words ≡ size
+-- a line that began at one run has led to another, and has written the text of its events, or written it up to a fault
+pub record SoFar (word : List ℕ) (first run : Run) (core : Seen) (told : List ℕ) (k k' : SinkState) (written : Result (Unit {0}) Failed) : Type 0 where
+  pub stands : For core told run
   pub count : ℕ
-  pub grown : length h ≡ count + length first
-  pub wrote : WritesAll k k' (events_text size word count h) written
+  pub grown : length run.history ≡ count + length first.history
+  pub wrote : WritesAll k k' (events_text first.memory word count run.history) written
 
 -- the newest event is this request, and gave an address
 pub record Gave (request : Act) (start : ℕ) (h : History) : Type 0 where

@@ -3,25 +3,19 @@
 ghost use Rattle.std.specs.Prelude.{◌≡◌, ℕ, ◌+◌, ◌*◌, ◌/◌, ◌<◌, ◌≤◌, ◌^◌, List, length, map, [], ◌∷◌, true};
 ghost use Rattle.km_base.specs.declared.acts.Act.TheVariants.{Kmalloc, Store, VmTake};
 ghost use Rattle.km_model.specs.Memory.{words_from};
-ghost use Rattle.km_model.specs.Placement.{class_of, kmalloc_span, pages_for};
+ghost use Rattle.km_model.specs.Placement.{kmalloc_span, pages_for};
 ghost use Rattle.km_edge.specs.Streams.{SinkState};
-ghost use Rattle.km_model.specs.History.{History};
-ghost use Rattle.km_model.specs.Follows.{all_happen, happens};
+ghost use Rattle.km_model.specs.Follows.{Run, all_happen, happens};
 ghost use Rattle.km_model.specs.Expansion.{acts_behind, head_stores, set_register, slot_word as slot_word_of, stores_from, world_after};
 ghost use Rattle.km_machine.specs.Machines.{HasRoom, Spent};
 ghost use Rattle.km_machine.specs.Lines.{Gave, IsGiven, SoFar, is_allocation, is_simple};
 
 use crate::machine::Machine;
 use crate::print;
-use km_base::{Act, Addr};
+use km_base::sizes::BASE;
+use km_base::{Act, Addr, Command, RegName};
 use km_edge::{Failed, Sink};
-use km_model::{Command, RegName};
-
-/// The start of the memory, where the vmap slots are.
-const SLOTS: u64 = 0xffff_8880_0000_0000;
-
-/// The sizes of slab blocks.
-const CLASSES: [u64; 12] = [8, 16, 32, 64, 96, 128, 192, 256, 512, 1024, 2048, 4096];
+use km_slab::words_for;
 
 /// Makes one event of a line, and writes its text unless a write has failed before. It is answered by no address, so
 /// that the word isn't written.
@@ -33,7 +27,7 @@ pub fn made<K: Sink>(
 ) -> Result<(), Failed>
     requires room { HasRoom machine.old.core machine.old.words 1 0 }
     requires simple { is_simple act ≡ true }
-    ensures so_far { (size : ℕ) (word : List ℕ) (first h : History) (k : SinkState) → SoFar size word first h machine.old.core machine.old.words k (K.state sink.old) written → SoFar size word first (happens size h act) machine.new.core machine.new.words k (K.state sink.new) result }
+    ensures so_far { (word : List ℕ) (first run : Run) (k : SinkState) → SoFar word first run machine.old.core machine.old.words k (K.state sink.old) written → SoFar word first (happens run act) machine.new.core machine.new.words k (K.state sink.new) result }
     ensures spent { Spent machine.old.core machine.new.core machine.old.words machine.new.words 1 0 }
 {
     let answer = machine.event(act);
@@ -47,7 +41,7 @@ pub fn made<K: Sink>(
 pub fn slot_word(slot: u32) -> u64
     ensures { result ≡ slot_word_of slot }
 {
-    SLOTS + 8 * slot as u64
+    BASE + 8 * slot as u64
 }
 
 /// Sets the register that an allocation names to its address.
@@ -59,8 +53,8 @@ fn set<K: Sink>(
     sink: &mut K,
 ) -> Result<(), Failed>
     requires { HasRoom machine.old.core machine.old.words 1 0 }
-    ensures so_far { (size : ℕ) (word : List ℕ) (first h : History) (k : SinkState) → SoFar size word first h machine.old.core machine.old.words k (K.state sink.old) written
-        → SoFar size word first (all_happen size h (set_register reg start)) machine.new.core machine.new.words k (K.state sink.new) result }
+    ensures so_far { (word : List ℕ) (first run : Run) (k : SinkState) → SoFar word first run machine.old.core machine.old.words k (K.state sink.old) written
+        → SoFar word first (all_happen run (set_register reg start)) machine.new.core machine.new.words k (K.state sink.new) result }
     ensures spent { Spent machine.old.core machine.new.core machine.old.words machine.new.words 1 0 }
 {
     match reg {
@@ -76,34 +70,6 @@ fn set<K: Sink>(
     }
 }
 
-/// The least slab class that isn't smaller than a size of at most 4096 bytes.
-fn class_for(size: u64) -> u64
-    requires { size ≤ 4096 }
-    ensures class { result ≡ class_of size }
-    ensures small { result ≤ 4096 }
-{
-    for class in CLASSES {
-        if size <= class {
-            return class;
-        }
-    }
-    4096
-}
-
-/// The words of a block that a request of so many bytes is given, none where there is no such block.
-fn words_for(size: u64) -> u64
-    ensures words { size ≤ 32768 → result ≡ kmalloc_span size / 8 }
-    ensures few { result ≤ 4096 }
-{
-    if size <= 4096 {
-        class_for(size) / 8
-    } else if size <= 32768 {
-        4096 * ((size + 4095) / 4096) / 8
-    } else {
-        0
-    }
-}
-
 /// Stores 0 into each word of a block.
 fn clear<K: Sink>(
     machine: &mut Machine,
@@ -113,8 +79,8 @@ fn clear<K: Sink>(
     sink: &mut K,
 ) -> Result<(), Failed>
     requires { HasRoom machine.old.core machine.old.words 4096 0 }
-    ensures so_far { (words : ℕ) (word : List ℕ) (first h : History) (k : SinkState) → Gave (Kmalloc size) start h → SoFar words word first h machine.old.core machine.old.words k (K.state sink.old) written
-        → SoFar words word first (all_happen words h (map (λ b. Store b 0) (words_from (kmalloc_span size / 8) start))) machine.new.core machine.new.words k (K.state sink.new) result }
+    ensures so_far { (word : List ℕ) (first run : Run) (k : SinkState) → Gave (Kmalloc size) start run.history → SoFar word first run machine.old.core machine.old.words k (K.state sink.old) written
+        → SoFar word first (all_happen run (map (λ b. Store b 0) (words_from (kmalloc_span size / 8) start))) machine.new.core machine.new.words k (K.state sink.new) result }
     ensures spent { Spent machine.old.core machine.new.core machine.old.words machine.new.words 4096 0 }
 {
     let mut written = written;
@@ -149,8 +115,8 @@ fn fill<K: Sink>(
 ) -> Result<(), Failed>
     requires few { length values.now ≤ 8 }
     requires room { HasRoom machine.old.core machine.old.words 8 0 }
-    ensures so_far { (words : ℕ) (word : List ℕ) (first h : History) (k : SinkState) → start + 64 ≤ 2 ^ 64 → SoFar words word first h machine.old.core machine.old.words k (K.state sink.old) written
-        → SoFar words word first (all_happen words h (stores_from start values.now)) machine.new.core machine.new.words k (K.state sink.new) result }
+    ensures so_far { (word : List ℕ) (first run : Run) (k : SinkState) → start + 64 ≤ 2 ^ 64 → SoFar word first run machine.old.core machine.old.words k (K.state sink.old) written
+        → SoFar word first (all_happen run (stores_from start values.now)) machine.new.core machine.new.words k (K.state sink.new) result }
     ensures spent { Spent machine.old.core machine.new.core machine.old.words machine.new.words 8 0 }
 {
     let mut written = written;
@@ -173,8 +139,8 @@ fn write_head<K: Sink>(
     sink: &mut K,
 ) -> Result<(), Failed>
     requires { HasRoom machine.old.core machine.old.words 9 0 }
-    ensures so_far { (words : ℕ) (word : List ℕ) (first h : History) (k : SinkState) → Gave (VmTake size) start h → SoFar words word first h machine.old.core machine.old.words k (K.state sink.old) written
-        → SoFar words word first (all_happen words h (head_stores (world_after h) size start)) machine.new.core machine.new.words k (K.state sink.new) result }
+    ensures so_far { (word : List ℕ) (first run : Run) (k : SinkState) → Gave (VmTake size) start run.history → SoFar word first run machine.old.core machine.old.words k (K.state sink.old) written
+        → SoFar word first (all_happen run (head_stores (world_after run.history) size start)) machine.new.core machine.new.words k (K.state sink.new) result }
     ensures spent { Spent machine.old.core machine.new.core machine.old.words machine.new.words 9 0 }
 {
     match machine.core.vm_area(Addr(start)) {
@@ -202,8 +168,8 @@ pub fn acts<K: Sink>(
 ) -> Result<(), Failed>
     requires allocation { is_allocation command.now ≡ true }
     requires room { HasRoom machine.old.core machine.old.words (2 ^ 13) 0 }
-    ensures so_far { (size : ℕ) (word : List ℕ) (first h : History) (k : SinkState) → IsGiven command.now start h → SoFar size word first h machine.old.core machine.old.words k (K.state sink.old) written
-        → SoFar size word first (all_happen size h (acts_behind (world_after h) command.now start)) machine.new.core machine.new.words k (K.state sink.new) result }
+    ensures so_far { (word : List ℕ) (first run : Run) (k : SinkState) → IsGiven command.now start run.history → SoFar word first run machine.old.core machine.old.words k (K.state sink.old) written
+        → SoFar word first (all_happen run (acts_behind (world_after run.history) command.now start)) machine.new.core machine.new.words k (K.state sink.new) result }
     ensures spent { Spent machine.old.core machine.new.core machine.old.words machine.new.words (2 ^ 13) 0 }
 {
     match *command {

@@ -3,9 +3,8 @@
 ghost use Rattle.std.specs.Prelude.{◌≡◌, ℕ, List, ◌+◌, ◌≤◌, ◌^◌, true, false, [], ◌∷◌, ◌++◌, length, Ok, Err, IfOk};
 ghost use Rattle.km_base.specs.declared.acts.Act.{Act};
 ghost use Rattle.km_edge.specs.Streams.{SinkState, WritesAll};
-ghost use Rattle.km_model.specs.declared.lines.Command.TheVariants as command;
-ghost use Rattle.km_model.specs.History.{History};
-ghost use Rattle.km_model.specs.Follows.{all_happen};
+ghost use Rattle.km_base.specs.declared.lines.Command.TheVariants as command;
+ghost use Rattle.km_model.specs.Follows.{Run, all_happen};
 ghost use Rattle.km_model.specs.Operands.{operand_value, task_or_refusal, then_do};
 ghost use Rattle.km_model.specs.Text.{refusal_text};
 ghost use Rattle.km_model.specs.Expansion.{first_acts, for_register as for_register_of, vfree_acts, world_after};
@@ -16,9 +15,8 @@ ghost use Rattle.km_machine.specs.Lines.{SoFar, is_allocation, is_alone, is_memo
 use crate::behind::made;
 use crate::machine::Machine;
 use crate::{behind, operands, print, scans};
-use km_base::{Act, Addr, Answer, FileCmd, Refusal};
+use km_base::{Act, Addr, Answer, Base, Command, FileCmd, Operand, Refusal, RegName};
 use km_edge::{Failed, Sink, write_all};
-use km_model::{Base, Command, Operand, RegName};
 use km_text::Text;
 
 /// Writes the text of a refusal.
@@ -32,7 +30,7 @@ fn refuse<K: Sink>(refusal: Refusal, sink: &mut K) -> Result<(), Failed>
 
 /// Refuses a register of a task that isn't live. It can be set where it can be read.
 fn live(machine: &Machine, reg: RegName) -> Result<(), Refusal>
-    ensures { (h : History) → For machine.now.core machine.now.words h → result ≡ then_do (task_or_refusal (world_after h) reg.task) (λ _. Ok tt) }
+    ensures { (run : Run) → For machine.now.core machine.now.words run → result ≡ then_do (task_or_refusal (world_after run.history) reg.task) (λ _. Ok tt) }
 {
     let base = Base::Reg {
         task: reg.task,
@@ -44,7 +42,7 @@ fn live(machine: &Machine, reg: RegName) -> Result<(), Refusal>
 
 /// The event that sets a register.
 fn set(machine: &Machine, reg: RegName, value: &Operand) -> Result<Act, Refusal>
-    ensures acts { (h : History) → For machine.now.core machine.now.words h → acts_of result ≡ first_acts (world_after h) (command.Set reg value.now) }
+    ensures acts { (run : Run) → For machine.now.core machine.now.words run → acts_of result ≡ first_acts (world_after run.history) (command.Set reg value.now) }
     ensures simple { IfOk result (λ act. is_simple act ≡ true) }
 {
     live(machine, reg)?;
@@ -57,7 +55,7 @@ fn set(machine: &Machine, reg: RegName, value: &Operand) -> Result<Act, Refusal>
 
 /// The event that loads a word into a register.
 fn load(machine: &Machine, reg: RegName, addr: &Operand) -> Result<Act, Refusal>
-    ensures acts { (h : History) → For machine.now.core machine.now.words h → acts_of result ≡ first_acts (world_after h) (command.Load reg addr.now) }
+    ensures acts { (run : Run) → For machine.now.core machine.now.words run → acts_of result ≡ first_acts (world_after run.history) (command.Load reg addr.now) }
     ensures simple { IfOk result (λ act. is_simple act ≡ true) }
 {
     live(machine, reg)?;
@@ -70,7 +68,7 @@ fn load(machine: &Machine, reg: RegName, addr: &Operand) -> Result<Act, Refusal>
 
 /// The event that stores a word.
 fn store(machine: &Machine, addr: &Operand, value: &Operand) -> Result<Act, Refusal>
-    ensures acts { (h : History) → For machine.now.core machine.now.words h → acts_of result ≡ first_acts (world_after h) (command.Store addr.now value.now) }
+    ensures acts { (run : Run) → For machine.now.core machine.now.words run → acts_of result ≡ first_acts (world_after run.history) (command.Store addr.now value.now) }
     ensures simple { IfOk result (λ act. is_simple act ≡ true) }
 {
     Ok(Act::Store {
@@ -82,7 +80,7 @@ fn store(machine: &Machine, addr: &Operand, value: &Operand) -> Result<Act, Refu
 /// The event of a line that makes one, or the refusal of what is missing.
 fn alone(machine: &Machine, command: &Command) -> Result<Act, Refusal>
     requires { is_alone command.now ≡ true }
-    ensures acts { (h : History) → For machine.now.core machine.now.words h → acts_of result ≡ first_acts (world_after h) command.now }
+    ensures acts { (run : Run) → For machine.now.core machine.now.words run → acts_of result ≡ first_acts (world_after run.history) command.now }
     ensures simple { IfOk result (λ act. is_simple act ≡ true) }
 {
     match *command {
@@ -121,7 +119,7 @@ fn alone(machine: &Machine, command: &Command) -> Result<Act, Refusal>
 fn run_alone<K: Sink>(machine: &mut Machine, command: &Command, sink: &mut K) -> Result<(), Failed>
     requires alone { is_alone command.now ≡ true }
     requires room { HasRoom machine.old.core machine.old.words 1 0 }
-    ensures runs { (h : History) → For machine.old.core machine.old.words h → RunsLine machine.old.core machine.new.core machine.old.words machine.new.words h command.now (K.state sink.old) (K.state sink.new) result }
+    ensures runs { (run : Run) → For machine.old.core machine.old.words run → RunsLine machine.new.core machine.new.words run command.now (K.state sink.old) (K.state sink.new) result }
     ensures spent { Spent machine.old.core machine.new.core machine.old.words machine.new.words 1 0 }
 {
     match alone(machine, command) {
@@ -132,7 +130,7 @@ fn run_alone<K: Sink>(machine: &mut Machine, command: &Command, sink: &mut K) ->
 
 /// An act, unless it is for a register of a task that isn't live.
 fn for_register(machine: &Machine, reg: Option<RegName>, act: Act) -> Result<Act, Refusal>
-    ensures acts { (h : History) → For machine.now.core machine.now.words h → acts_of result ≡ for_register_of (world_after h) reg act }
+    ensures acts { (run : Run) → For machine.now.core machine.now.words run → acts_of result ≡ for_register_of (world_after run.history) reg act }
     ensures same { IfOk result (λ a. a ≡ act) }
 {
     match reg {
@@ -147,7 +145,7 @@ fn for_register(machine: &Machine, reg: Option<RegName>, act: Act) -> Result<Act
 /// The request of a line for an allocation, or the refusal of its register.
 fn request(machine: &Machine, command: &Command) -> Result<Act, Refusal>
     requires { is_allocation command.now ≡ true }
-    ensures acts { (h : History) → For machine.now.core machine.now.words h → acts_of result ≡ first_acts (world_after h) command.now }
+    ensures acts { (run : Run) → For machine.now.core machine.now.words run → acts_of result ≡ first_acts (world_after run.history) command.now }
     ensures request { IfOk result (λ act. is_request act ≡ true) }
 {
     match *command {
@@ -187,7 +185,7 @@ fn requested<K: Sink>(
     requires allocation { is_allocation command.now ≡ true }
     requires request { is_request act ≡ true }
     requires room { HasRoom machine.old.core machine.old.words (2 ^ 14) 0 }
-    ensures runs { (h : History) → For machine.old.core machine.old.words h → Ok (act ∷ []) ≡ first_acts (world_after h) command.now → RunsLine machine.old.core machine.new.core machine.old.words machine.new.words h command.now (K.state sink.old) (K.state sink.new) result }
+    ensures runs { (run : Run) → For machine.old.core machine.old.words run → Ok (act ∷ []) ≡ first_acts (world_after run.history) command.now → RunsLine machine.new.core machine.new.words run command.now (K.state sink.old) (K.state sink.new) result }
     ensures spent { Spent machine.old.core machine.new.core machine.old.words machine.new.words (2 ^ 14) 0 }
 {
     let answer = machine.event(act);
@@ -202,7 +200,7 @@ fn requested<K: Sink>(
 fn allocate<K: Sink>(machine: &mut Machine, command: &Command, sink: &mut K) -> Result<(), Failed>
     requires allocation { is_allocation command.now ≡ true }
     requires room { HasRoom machine.old.core machine.old.words (2 ^ 14) 0 }
-    ensures runs { (h : History) → For machine.old.core machine.old.words h → RunsLine machine.old.core machine.new.core machine.old.words machine.new.words h command.now (K.state sink.old) (K.state sink.new) result }
+    ensures runs { (run : Run) → For machine.old.core machine.old.words run → RunsLine machine.new.core machine.new.words run command.now (K.state sink.old) (K.state sink.new) result }
     ensures spent { Spent machine.old.core machine.new.core machine.old.words machine.new.words (2 ^ 14) 0 }
 {
     match request(machine, command) {
@@ -213,7 +211,7 @@ fn allocate<K: Sink>(machine: &mut Machine, command: &Command, sink: &mut K) -> 
 
 /// Runs `print`.
 fn show<K: Sink>(machine: &Machine, operand: &Operand, sink: &mut K) -> Result<(), Failed>
-    ensures { (h : History) → For machine.now.core machine.now.words h → RunsLine machine.now.core machine.now.core machine.now.words machine.now.words h (command.Print operand.now) (K.state sink.old) (K.state sink.new) result }
+    ensures { (run : Run) → For machine.now.core machine.now.words run → RunsLine machine.now.core machine.now.words run (command.Print operand.now) (K.state sink.old) (K.state sink.new) result }
 {
     match operands::value(machine, operand) {
         Ok(value) => {
@@ -228,7 +226,7 @@ fn show<K: Sink>(machine: &Machine, operand: &Operand, sink: &mut K) -> Result<(
 /// Runs a read of the file.
 fn read<K: Sink>(machine: &mut Machine, sink: &mut K) -> Result<(), Failed>
     requires { HasRoom machine.old.core machine.old.words 1 0 }
-    ensures runs { (h : History) → For machine.old.core machine.old.words h → RunsLine machine.old.core machine.new.core machine.old.words machine.new.words h command.Read (K.state sink.old) (K.state sink.new) result }
+    ensures runs { (run : Run) → For machine.old.core machine.old.words run → RunsLine machine.new.core machine.new.words run command.Read (K.state sink.old) (K.state sink.new) result }
     ensures spent { Spent machine.old.core machine.new.core machine.old.words machine.new.words 1 0 }
 {
     match machine.event(Act::Read) {
@@ -240,7 +238,7 @@ fn read<K: Sink>(machine: &mut Machine, sink: &mut K) -> Result<(), Failed>
 /// Clears the slot of an area, and then gives the area back.
 fn give<K: Sink>(machine: &mut Machine, start: u64, sink: &mut K) -> Result<(), Failed>
     requires { HasRoom machine.old.core machine.old.words 2 0 }
-    ensures so_far { (h : History) → For machine.old.core machine.old.words h → SoFar machine.old.core.parts.words [] h (all_happen machine.old.core.parts.words h (vfree_acts (world_after h) start)) machine.new.core machine.new.words (K.state sink.old) (K.state sink.new) result }
+    ensures so_far { (run : Run) → For machine.old.core machine.old.words run → SoFar [] run (all_happen run (vfree_acts (world_after run.history) start)) machine.new.core machine.new.words (K.state sink.old) (K.state sink.new) result }
     ensures spent { Spent machine.old.core machine.new.core machine.old.words machine.new.words 2 0 }
 {
     match machine.core.vm_area(Addr(start)) {
@@ -259,7 +257,7 @@ fn give<K: Sink>(machine: &mut Machine, start: u64, sink: &mut K) -> Result<(), 
 /// Runs `vfree`.
 fn give_area<K: Sink>(machine: &mut Machine, operand: &Operand, sink: &mut K) -> Result<(), Failed>
     requires { HasRoom machine.old.core machine.old.words 2 0 }
-    ensures runs { (h : History) → For machine.old.core machine.old.words h → RunsLine machine.old.core machine.new.core machine.old.words machine.new.words h (command.Vfree operand.now) (K.state sink.old) (K.state sink.new) result }
+    ensures runs { (run : Run) → For machine.old.core machine.old.words run → RunsLine machine.new.core machine.new.words run (command.Vfree operand.now) (K.state sink.old) (K.state sink.new) result }
     ensures spent { Spent machine.old.core machine.new.core machine.old.words machine.new.words 2 0 }
 {
     match operands::value(machine, operand) {
@@ -274,7 +272,7 @@ impl Machine {
         requires later { is_memory command.now ≡ false }
         requires few { IsFew command.now }
         requires room { HasRoom self.old.core self.old.words (2 ^ 38) 3600000 }
-        ensures runs { (h : History) → For self.old.core self.old.words h → RunsLine self.old.core self.new.core self.old.words self.new.words h command.now (K.state sink.old) (K.state sink.new) result }
+        ensures runs { (run : Run) → For self.old.core self.old.words run → RunsLine self.new.core self.new.words run command.now (K.state sink.old) (K.state sink.new) result }
         ensures spent { Spent self.old.core self.new.core self.old.words self.new.words (2 ^ 38) 3600000 }
     {
         match *command {

@@ -1,10 +1,10 @@
 //! A core and its words.
 
-ghost use Rattle.std.specs.Prelude.{◌≡◌, ℕ, ◌+◌, ◌<◌, ◌≤◌, ◌^◌, [], length, IfOk};
+ghost use Rattle.std.specs.Prelude.{◌≡◌, ℕ, ◌+◌, ◌<◌, ◌≤◌, ◌^◌, length, IfOk};
 ghost use Rattle.km_base.specs.declared.acts.Act.TheVariants.{Tick};
 ghost use Rattle.km_model.specs.Headline.{IsMemorySize};
-ghost use Rattle.km_model.specs.History.{History, ticks_of};
-ghost use Rattle.km_model.specs.Follows.{happens, told_answer};
+ghost use Rattle.km_model.specs.History.{ticks_of};
+ghost use Rattle.km_model.specs.Follows.{Run, first_run, happens, told_answer};
 ghost use Rattle.km_machine.specs.Machines.{For, HasRoom, Spent};
 
 use km_base::{Act, Answer, NoMemory};
@@ -24,7 +24,7 @@ impl Machine {
     /// What a line `memory` makes.
     pub fn new(alloc: Global, words: u64) -> Result<Machine, NoMemory>
         requires { IsMemorySize words }
-        ensures stands { IfOk result (λ m. For m.core m.words []) }
+        ensures stands { IfOk result (λ m. For m.core m.words (first_run m.core.parts.words)) }
         ensures words { IfOk result (λ m. m.core.parts.words ≡ words) }
         ensures size { IfOk result (λ m. length m.words ≡ words) }
     {
@@ -38,8 +38,8 @@ impl Machine {
     /// Makes one event.
     pub fn event(&mut self, act: Act) -> Answer
         requires room { HasRoom self.old.core self.old.words 1 (ticks_of act) }
-        ensures happens { (h : History) → For self.old.core self.old.words h → For self.new.core self.new.words (happens self.old.core.parts.words h act) }
-        ensures answer { (h : History) → For self.old.core self.old.words h → result ≡ told_answer self.old.core.parts.words h act }
+        ensures happens { (run : Run) → For self.old.core self.old.words run → For self.new.core self.new.words (happens run act) }
+        ensures answer { (run : Run) → For self.old.core self.old.words run → result ≡ told_answer run act }
         ensures spent { Spent self.old.core self.new.core self.old.words self.new.words 1 (ticks_of act) }
     {
         self.core.apply(&mut self.words, act)

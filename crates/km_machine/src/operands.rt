@@ -1,18 +1,17 @@
 //! The values of operands.
 
 ghost use Rattle.std.specs.Prelude.{◌≡◌};
-ghost use Rattle.km_model.specs.History.{History};
+ghost use Rattle.km_model.specs.Follows.{Run};
 ghost use Rattle.km_model.specs.Operands.{base_value, operand_value};
 ghost use Rattle.km_model.specs.Expansion.{world_after};
 ghost use Rattle.km_machine.specs.Machines.{For};
 
 use crate::machine::Machine;
-use km_base::Refusal;
-use km_model::{Base, Operand};
+use km_base::{Base, Operand, Refusal};
 
 /// The value of a base, or why there is none.
 fn base_value(machine: &Machine, base: Base) -> Result<u64, Refusal>
-    ensures { (h : History) → For machine.now.core machine.now.words h → result ≡ base_value (world_after h) base }
+    ensures { (run : Run) → For machine.now.core machine.now.words run → result ≡ base_value (world_after run.history) base }
 {
     match base {
         Base::Number(n) => Ok(n),
@@ -38,7 +37,7 @@ fn base_value(machine: &Machine, base: Base) -> Result<u64, Refusal>
 
 /// The value of an operand, modulo 2^64, or why there is none.
 pub fn value(machine: &Machine, operand: &Operand) -> Result<u64, Refusal>
-    ensures { (h : History) → For machine.now.core machine.now.words h → result ≡ operand_value (world_after h) operand.now }
+    ensures { (run : Run) → For machine.now.core machine.now.words run → result ≡ operand_value (world_after run.history) operand.now }
 {
     Ok(base_value(machine, operand.base)?.wrapping_add(operand.plus))
 }

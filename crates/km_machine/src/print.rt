@@ -1,12 +1,13 @@
 //! What answers print.
 
-ghost use Rattle.std.specs.Prelude.{◌≡◌, ℕ, ◌+◌, ◌-◌, ◌%◌, ◌^◌, ◌<◌, ◌≤◌, ◌++◌, true, Some, min, length, take};
+ghost use Rattle.std.specs.Prelude.{◌≡◌, ℕ, ◌+◌, ◌-◌, ◌%◌, ◌^◌, ◌<◌, ◌≤◌, ◌++◌, List, true, Some, min, length, take};
 ghost use Rattle.km_base.specs.declared.acts.Act.{Act};
 ghost use Rattle.km_base.specs.declared.acts.Act.TheVariants.{Read};
 ghost use Rattle.km_base.specs.declared.acts.Answer.TheVariants.{At};
 ghost use Rattle.km_edge.specs.Streams.{WritesAll};
 ghost use Rattle.km_laws.specs.Placed.{InMemory};
 ghost use Rattle.km_model.specs.Blocks.{Block};
+ghost use Rattle.km_model.specs.Follows.{Run};
 ghost use Rattle.km_model.specs.History.{History};
 ghost use Rattle.km_model.specs.Memory.{in_memory as is_word, word_at};
 ghost use Rattle.km_model.specs.Output.{answer_text, listing_text};
@@ -28,7 +29,7 @@ use km_words::{Plain, Words, in_memory};
 pub fn answer<K: Sink>(word: &[u8], answer: Answer, sink: &mut K) -> Result<(), Failed>
     requires some { (a : ℕ) → answer ≡ At a → 1 ≤ length word.now }
     requires short { length word.now ≤ 16 }
-    ensures { (words : ℕ) (h : History) (act : Act) → (act ≡ Read → ⊥) → WritesAll (K.state sink.old) (K.state sink.new) (answer_text words word.now h act answer) result }
+    ensures { (memory : List ℕ) (h : History) (act : Act) → (act ≡ Read → ⊥) → WritesAll (K.state sink.old) (K.state sink.new) (answer_text memory word.now h act answer) result }
 {
     let mut text = Text::new();
     match answer {
@@ -56,7 +57,7 @@ fn dump<K: Sink>(info: &Info, sink: &mut K) -> Result<(), Failed>
 
 /// Writes what a read prints: an entry for each listed block, in order of registration.
 pub fn listing<K: Sink>(machine: &mut Machine, sink: &mut K) -> Result<(), Failed>
-    ensures listing { (h : History) → For machine.old.core machine.old.words h → WritesAll (K.state sink.old) (K.state sink.new) (listing_text machine.old.core.parts.words h) result }
+    ensures listing { (run : Run) → For machine.old.core machine.old.words run → WritesAll (K.state sink.old) (K.state sink.new) (listing_text run.memory run.history) result }
     ensures same { machine.new ≡ machine.old }
 {
     let core = &machine.core;

@@ -4,9 +4,9 @@ ghost use Rattle.std.specs.Prelude.{◌≡◌, ℕ, ◌+◌, ◌-◌, ◌<◌, �
 ghost use Rattle.km_base.specs.declared.acts.Act.TheVariants as act;
 ghost use Rattle.km_base.specs.declared.acts.FileCmd.TheVariants as word;
 ghost use Rattle.km_edge.specs.Streams.{SinkState, WritesAll};
-ghost use Rattle.km_model.specs.declared.lines.Command.TheVariants as command;
-ghost use Rattle.km_model.specs.Expansion.{due_by as due_in, history_at, newest_answer, world_after};
-ghost use Rattle.km_model.specs.Follows.{happens};
+ghost use Rattle.km_base.specs.declared.lines.Command.TheVariants as command;
+ghost use Rattle.km_model.specs.Expansion.{due_by as due_in, newest_answer, run_at, world_after};
+ghost use Rattle.km_model.specs.Follows.{Run, happens};
 ghost use Rattle.km_model.specs.History.{History};
 ghost use Rattle.km_machine.specs.Machines.{For, HasRoom, RunsLine, Spent};
 ghost use Rattle.km_machine.specs.Scans.{GoesOn, Scanned, ScansUntil, Stepped, shown};
@@ -26,7 +26,7 @@ const MOST_SCANS: u64 = 3_602;
 pub fn steps<K: Sink>(machine: &mut Machine, n: u64, sink: &mut K) -> Result<(), Failed>
     requires few { n ≤ 1000000000 }
     requires room { HasRoom machine.old.core machine.old.words n 0 }
-    ensures runs { (h : History) → For machine.old.core machine.old.words h → RunsLine machine.old.core machine.new.core machine.old.words machine.new.words h (command.Step n) (K.state sink.old) (K.state sink.new) result }
+    ensures runs { (run : Run) → For machine.old.core machine.old.words run → RunsLine machine.new.core machine.new.words run (command.Step n) (K.state sink.old) (K.state sink.new) result }
     ensures spent { Spent machine.old.core machine.new.core machine.old.words machine.new.words n 0 }
 {
     let last = step_on(machine, n);
@@ -36,7 +36,7 @@ pub fn steps<K: Sink>(machine: &mut Machine, n: u64, sink: &mut K) -> Result<(),
 /// Scanner steps until no scan runs; one, which is refused, if none ran.
 pub fn finish<K: Sink>(machine: &mut Machine, sink: &mut K) -> Result<(), Failed>
     requires { HasRoom machine.old.core machine.old.words (2 ^ 25) 0 }
-    ensures runs { (h : History) → For machine.old.core machine.old.words h → RunsLine machine.old.core machine.new.core machine.old.words machine.new.words h command.Finish (K.state sink.old) (K.state sink.new) result }
+    ensures runs { (run : Run) → For machine.old.core machine.old.words run → RunsLine machine.new.core machine.new.words run command.Finish (K.state sink.old) (K.state sink.new) result }
     ensures spent { Spent machine.old.core machine.new.core machine.old.words machine.new.words (2 ^ 25) 0 }
 {
     let last = step_on(machine, MOST_STEPS);
@@ -46,7 +46,7 @@ pub fn finish<K: Sink>(machine: &mut Machine, sink: &mut K) -> Result<(), Failed
 /// A whole scan, if none runs.
 pub fn scan<K: Sink>(machine: &mut Machine, sink: &mut K) -> Result<(), Failed>
     requires { HasRoom machine.old.core machine.old.words (2 ^ 25 + 1) 0 }
-    ensures runs { (h : History) → For machine.old.core machine.old.words h → RunsLine machine.old.core machine.new.core machine.old.words machine.new.words h (command.Write (Some word.Scan)) (K.state sink.old) (K.state sink.new) result }
+    ensures runs { (run : Run) → For machine.old.core machine.old.words run → RunsLine machine.new.core machine.new.words run (command.Write (Some word.Scan)) (K.state sink.old) (K.state sink.new) result }
     ensures spent { Spent machine.old.core machine.new.core machine.old.words machine.new.words (2 ^ 25 + 1) 0 }
 {
     let begun = machine.event(Act::File(FileCmd::Scan));
@@ -58,7 +58,7 @@ pub fn scan<K: Sink>(machine: &mut Machine, sink: &mut K) -> Result<(), Failed>
 pub fn tick<K: Sink>(machine: &mut Machine, n: u64, sink: &mut K) -> Result<(), Failed>
     requires few { n ≤ 3600000 }
     requires room { HasRoom machine.old.core machine.old.words (2 ^ 37) n }
-    ensures runs { (h : History) → For machine.old.core machine.old.words h → RunsLine machine.old.core machine.new.core machine.old.words machine.new.words h (command.Tick n) (K.state sink.old) (K.state sink.new) result }
+    ensures runs { (run : Run) → For machine.old.core machine.old.words run → RunsLine machine.new.core machine.new.words run (command.Tick n) (K.state sink.old) (K.state sink.new) result }
     ensures spent { Spent machine.old.core machine.new.core machine.old.words machine.new.words (2 ^ 37) n }
 {
     let target = machine.core.now() + n;
@@ -72,7 +72,7 @@ fn automatic_scans<K: Sink>(machine: &mut Machine, target: u64, sink: &mut K) ->
     requires ahead { machine.old.core.parts.settings.now ≤ target }
     requires few { target ≤ machine.old.core.parts.settings.now + 3600000 }
     requires room { HasRoom machine.old.core machine.old.words (2 ^ 37) (target - machine.old.core.parts.settings.now) }
-    ensures runs { (h : History) → For machine.old.core machine.old.words h → ScansUntil machine.new.core machine.new.words machine.old.core.parts.words target h (K.state sink.old) (K.state sink.new) result }
+    ensures runs { (run : Run) → For machine.old.core machine.old.words run → ScansUntil machine.new.core machine.new.words target run (K.state sink.old) (K.state sink.new) result }
     ensures spent { Spent machine.old.core machine.new.core machine.old.words machine.new.words (2 ^ 37 - 1) (target - machine.old.core.parts.settings.now) }
 {
     let mut written = Ok(());
@@ -90,7 +90,7 @@ fn automatic_scans<K: Sink>(machine: &mut Machine, target: u64, sink: &mut K) ->
 /// Makes the automatic scan that is due at a moment, and gives the last answer.
 fn automatic_scan(machine: &mut Machine, due: u64) -> Answer
     requires { HasRoom machine.old.core machine.old.words (2 ^ 25 + 2) (due - machine.old.core.parts.settings.now) }
-    ensures scanned { (h : History) → For machine.old.core machine.old.words h → Scanned machine.new.core machine.new.words machine.old.core.parts.words h (happens machine.old.core.parts.words (history_at machine.old.core.parts.words h due) act.AutoBegin) result }
+    ensures scanned { (run : Run) → For machine.old.core machine.old.words run → Scanned machine.new.core machine.new.words run.history (happens (run_at run due) act.AutoBegin) result }
     ensures spent { Spent machine.old.core machine.new.core machine.old.words machine.new.words (2 ^ 25 + 2) (due - machine.old.core.parts.settings.now) }
 {
     move_to(machine, due);
@@ -100,7 +100,7 @@ fn automatic_scan(machine: &mut Machine, due: u64) -> Answer
 
 /// When the next automatic scan is due, if it is by a moment.
 fn due_by(machine: &Machine, target: u64) -> Option<u64>
-    ensures due { (h : History) → For machine.now.core machine.now.words h → result ≡ due_in target (world_after h) }
+    ensures due { (run : Run) → For machine.now.core machine.now.words run → result ≡ due_in target (world_after run.history) }
     ensures by { IfSome result (λ m. m ≤ target) }
 {
     match machine.core.auto_at() {
@@ -112,7 +112,7 @@ fn due_by(machine: &Machine, target: u64) -> Option<u64>
 /// Moves time to a moment that isn't before it.
 fn move_to(machine: &mut Machine, moment: u64)
     requires { HasRoom machine.old.core machine.old.words 1 (moment - machine.old.core.parts.settings.now) }
-    ensures moved { (h : History) → For machine.old.core machine.old.words h → For machine.new.core machine.new.words (history_at machine.old.core.parts.words h moment) }
+    ensures moved { (run : Run) → For machine.old.core machine.old.words run → For machine.new.core machine.new.words (run_at run moment) }
     ensures spent { Spent machine.old.core machine.new.core machine.old.words machine.new.words 1 (moment - machine.old.core.parts.settings.now) }
 {
     let wait = moment.saturating_sub(machine.core.now());
@@ -122,8 +122,8 @@ fn move_to(machine: &mut Machine, moment: u64)
 /// Makes a whole scan if an event began one, by its answer, and gives the last answer.
 fn scan_on(machine: &mut Machine, begun: Answer) -> Answer
     requires { HasRoom machine.old.core machine.old.words (2 ^ 25) 0 }
-    ensures scanned { (first h : History) → For machine.old.core machine.old.words h → newest_answer h ≡ Some begun → GoesOn machine.old.core.parts.words first (shown begun) h
-        → Scanned machine.new.core machine.new.words machine.old.core.parts.words first h result }
+    ensures scanned { (first : History) (run : Run) → For machine.old.core machine.old.words run → newest_answer run.history ≡ Some begun → GoesOn first (shown begun) run.history
+        → Scanned machine.new.core machine.new.words first run result }
     ensures spent { Spent machine.old.core machine.new.core machine.old.words machine.new.words (2 ^ 25) 0 }
 {
     match begun {
@@ -135,7 +135,7 @@ fn scan_on(machine: &mut Machine, begun: Answer) -> Answer
 /// Makes at most so many scanner steps, and gives the answer of the one that doesn't load, or `Done`.
 fn step_on(machine: &mut Machine, most: u64) -> Answer
     requires { HasRoom machine.old.core machine.old.words most 0 }
-    ensures stepped { (h : History) → For machine.old.core machine.old.words h → Stepped machine.new.core machine.new.words machine.old.core.parts.words h most result }
+    ensures stepped { (run : Run) → For machine.old.core machine.old.words run → Stepped machine.new.core machine.new.words run most result }
     ensures spent { Spent machine.old.core machine.new.core machine.old.words machine.new.words most 0 }
 {
     for _ in 0..most {

@@ -14,11 +14,6 @@ pub none_from : (q : Entry → Bool) (a : ℕ) (es : List Entry) → StartFrom a
 none_from q a [] s h = refl
 none_from q a (e ∷ es) s h = rw (h e s.0) (none_from q a es s.1 h)
 
-pub rising-drop : (n : ℕ) (es : List Entry) → IsRising es → IsRising (drop n es)
-rising-drop zero es r = r
-rising-drop (suc n) [] r = tt
-rising-drop (suc n) (e ∷ es) r = rising-drop n es r.2
-
 pub start-filter : (p : Entry → Bool) (a : ℕ) (es : List Entry) → StartFrom a es → StartFrom a (filter p es)
 start-filter p a [] s = tt
 start-filter p a (e ∷ es) s =

@@ -2,7 +2,7 @@ use Rattle.std.proofs.Common.{◌≡◌, ℕ, ◌+◌, nat_lt, not, Bool, true, 
 use Rattle.km_base.specs.declared.acts.Act.{Act}
 use Rattle.km_base.specs.declared.acts.Act.TheVariants.{Section, TaskStart, TaskExit, SetReg, Load, Store, Kmalloc, Kfree, Pages, FreePages, VmTake, VmGive, BootMem, FreePart, NotLeak, Ignore, NoScan, ScanArea, TransientLeak, File, Read, Tick, AutoBegin, Step, Halt}
 use Rattle.km_base.specs.declared.acts.FileCmd.{FileCmd}
-use Rattle.km_base.specs.declared.acts.FileCmd.TheVariants.{Off, Clear, Dump}
+use Rattle.km_base.specs.declared.acts.FileCmd.TheVariants.{Off, Clear, Dump, Why}
 use Rattle.km_base.specs.declared.acts.Info.{Info}
 use Rattle.km_base.specs.declared.acts.Answer.{Answer}
 use Rattle.km_base.specs.declared.acts.Answer.TheVariants.{Done, At, Loaded, Ended, Stopped, Skipped, Dumped, Refused}
@@ -13,7 +13,7 @@ use Rattle.km_model.specs.World.{World}
 use Rattle.km_model.specs.Past.{Past, Place, world, running_scan, scans}
 use Rattle.km_model.specs.Scan.{next}
 use Rattle.km_model.specs.Verdict.{new_blocks}
-use Rattle.km_model.specs.Answers.{answer, unless, at_place, done_at, unless_busy, annotation_answer, area_added, part_answer, dump_answer, stop_answer, write_answer, info_of}
+use Rattle.km_model.specs.Answers.{answer, unless, at_place, done_at, unless_busy, annotation_answer, area_added, part_answer, dump_answer, why_answer, stop_answer, write_answer, info_of}
 
 -- what every answer has that no step gives to the end of a scan
 pub record Forms (past : Past) (value : ℕ) (P : Answer → Type 0) : Type 0 where
@@ -87,6 +87,9 @@ module _ (past : Past) (value : ℕ) (P : Answer → Type 0) (h : Forms past val
   write_has (Dump a) =
       unless_has (not (world past).enabled) Disabled (unless_busy (running_scan past) (dump_answer past a))
       (busy_has (running_scan past) (dump_answer past a) (shown_has (block_with (world past).blocks a)))
+  write_has (Why a) =
+      unless_has (not (world past).enabled) Disabled (unless_busy (running_scan past) (why_answer (world past) a))
+      (busy_has (running_scan past) (why_answer (world past) a) (found_has (block_with (world past).blocks a)))
   write_has _ = unless_has (not (world past).enabled) Disabled (unless_busy (running_scan past) Done) (busy_has (running_scan past) Done done_has)
 
   step_has : (o : Option ℕ) (p : Option Place) → running_scan past ≡ o → next past ≡ p

@@ -2,13 +2,13 @@ use Rattle.std.proofs.Common.{◌≡◌, ◌+◌, true, false, [], ◌∷◌, �
 use Rattle.std.specs.Fmt.{digits}
 use Rattle.km_base.specs.declared.acts.Reg.TheVariants.{R0, R1}
 use Rattle.km_base.specs.declared.acts.FileCmd.TheVariants.{ScanEvery, Dump}
-use Rattle.km_model.specs.declared.lines.Base.TheVariants.{Number, Reg, Stack, Section}
-use Rattle.km_model.specs.declared.lines.Command.TheVariants as command
-use Rattle.km_model.specs.declared.lines.Line.TheVariants as line
+use Rattle.km_base.specs.declared.lines.Base.TheVariants.{Number, Reg, Stack, Section}
+use Rattle.km_base.specs.declared.lines.Command.TheVariants as command
+use Rattle.km_base.specs.declared.lines.Line.TheVariants as line
 use Rattle.km_model.specs.Grammar.{line_by, line_of, file_command}
 use Rattle.km_model.specs.Memory.{base}
 use Rattle.km_model.specs.Output.{lines_of, status_of}
-use Rattle.km_model.specs.declared.status.Status.TheVariants as status
+use Rattle.km_base.specs.declared.status.Status.TheVariants as status
 use Rattle.km_model.specs.Text.{entry}
 use Rattle.km_model.specs.Blocks.{AtLeast}
 

@@ -1,21 +1,23 @@
 use Rattle.std.specs.Prelude.{ℕ, ◌+◌, ◌%◌, Bool, true, false, ◌&&◌, not, nat_le, nat_lt, ◌==◌, List, [], ◌∷◌, length, Option, Some, None, Result, Ok, Err, option_map, position, bytes_eq, codes, if◌then◌else◌}
+use Rattle.km_base.specs.declared.sizes.TheConstants.{LONGEST_LINE, MOST_WORDS, PAGE_WORDS, TOO_LONG}
 use Rattle.km_base.specs.declared.acts.Reg.{Reg}
 use Rattle.km_base.specs.declared.acts.Reg.TheVariants.{R0, R1, R2, R3}
 use Rattle.km_base.specs.declared.acts.FileCmd.{FileCmd}
 use Rattle.km_base.specs.declared.acts.FileCmd.TheVariants.{Off, StackOn, StackOff, ScanOn, ScanOff, ScanEvery, Scan, Clear, Dump}
 use Rattle.km_base.specs.Numbers.{number_of}
 use Rattle.km_base.specs.Names.{name_of}
-use Rattle.km_model.specs.declared.lines.Base.{Base}
-use Rattle.km_model.specs.declared.lines.Base.TheVariants as base
-use Rattle.km_model.specs.declared.lines.Operand.{Operand}
-use Rattle.km_model.specs.declared.lines.RegName.{RegName}
-use Rattle.km_model.specs.declared.lines.Command.{Command}
-use Rattle.km_model.specs.declared.lines.Command.TheVariants as command
-use Rattle.km_model.specs.declared.lines.Line.{Line}
-use Rattle.km_model.specs.declared.lines.Line.TheVariants as line
-use Rattle.km_model.specs.declared.lines.NotACommand.{NotACommand}
+use Rattle.km_base.specs.Prefix.{behind_prefix}
+use Rattle.km_base.specs.declared.lines.Base.{Base}
+use Rattle.km_base.specs.declared.lines.Base.TheVariants as base
+use Rattle.km_base.specs.declared.lines.Operand.{Operand}
+use Rattle.km_base.specs.declared.lines.RegName.{RegName}
+use Rattle.km_base.specs.declared.lines.Command.{Command}
+use Rattle.km_base.specs.declared.lines.Command.TheVariants as command
+use Rattle.km_base.specs.declared.lines.Line.{Line}
+use Rattle.km_base.specs.declared.lines.Line.TheVariants as line
+use Rattle.km_base.specs.declared.lines.NotACommand.{NotACommand}
 use Rattle.km_model.specs.Held.{same_bool}
-use Rattle.km_model.specs.Pieces.{Piece, pieces, is_blank, up_to, behind_first, behind_prefix}
+use Rattle.km_model.specs.Pieces.{Piece, pieces, is_blank, up_to, behind_first}
 
 -- the value of an `Ok`
 abbrev pub ok_value : {A E : Type 0} → Result A E → Option A
@@ -42,7 +44,7 @@ multiple_of m (Some n) = if n % m == 0 then Some n else None
 
 -- a number of words that a memory can have
 abbrev pub memory_size : List ℕ → Option ℕ
-memory_size word = multiple_of 512 (number_within 512 4194304 word)
+memory_size word = multiple_of PAGE_WORDS (number_within PAGE_WORDS MOST_WORDS word)
 
 -- r0 to r3
 abbrev pub register_suffix : List ℕ → Option Reg
@@ -230,7 +232,7 @@ command_line table first bytes =
 -- a line without its line feed, by a table of commands; `first` says that no command was read before
 unfoldable pub line_by : List Rule → Bool → List ℕ → Result Line NotACommand
 line_by table first bytes =
-    if nat_lt 256 (length bytes) then Err (record { column = 257 })
+    if nat_lt LONGEST_LINE (length bytes) then Err (record { column = TOO_LONG })
     else (if is_comment (pieces bytes) then Ok line.Blank
     else (elim (pieces bytes) [ [] ↦ Ok line.Blank | _ ∷ _ ↦ command_line table first bytes ]))
 

@@ -19,6 +19,5 @@ pub mod Text
 pub mod Expansion
 pub mod Output
 pub mod Headline
-pub mod Codes
 pub mod Refusals
 pub mod Members

@@ -1,47 +1,46 @@
 use Rattle.std.specs.Prelude.{◌≡◌, ℕ, zero, suc, ◌+◌, ◌-◌, Bool, true, false, nat_le, ◌==◌, List, [], ◌∷◌, ◌++◌, flat_map, take, length, Result, Ok, Err, codes, if◌then◌else◌}
+use Rattle.km_base.specs.declared.sizes.TheConstants.{LONGEST_INPUT, LONGEST_LINE}
 use Rattle.km_base.specs.declared.acts.Act.{Act}
 use Rattle.km_base.specs.declared.acts.Act.TheVariants as act
 use Rattle.km_base.specs.declared.acts.Answer.{Answer}
 use Rattle.km_base.specs.declared.acts.Answer.TheVariants.{Done, At, Loaded, Ended, Stopped, Skipped, Dumped, Refused}
 use Rattle.km_base.specs.declared.acts.Refusal.{Refusal}
-use Rattle.km_model.specs.declared.lines.Command.{Command}
-use Rattle.km_model.specs.declared.lines.Command.TheVariants.{Memory, Kmalloc, Kzalloc, Pages, Vmalloc, BootMem, Print}
-use Rattle.km_model.specs.declared.lines.Line.{Line}
-use Rattle.km_model.specs.declared.lines.Line.TheVariants as line
-use Rattle.km_model.specs.declared.lines.NotACommand.{NotACommand}
-use Rattle.km_model.specs.declared.status.Status.{Status}
-use Rattle.km_model.specs.declared.status.Status.TheVariants as status
-use Rattle.km_model.specs.Memory.{memory_after}
+use Rattle.km_base.specs.declared.lines.Command.{Command}
+use Rattle.km_base.specs.declared.lines.Command.TheVariants.{Memory, Kmalloc, Kzalloc, Pages, Vmalloc, BootMem, Print}
+use Rattle.km_base.specs.declared.lines.Line.{Line}
+use Rattle.km_base.specs.declared.lines.Line.TheVariants as line
+use Rattle.km_base.specs.declared.lines.NotACommand.{NotACommand}
+use Rattle.km_base.specs.declared.status.Status.{Status}
+use Rattle.km_base.specs.declared.status.Status.TheVariants as status
 use Rattle.km_model.specs.History.{History}
 use Rattle.km_model.specs.Verdict.{listing}
-use Rattle.km_model.specs.Follows.{past_of}
+use Rattle.km_model.specs.Follows.{Run, first_run, past_of}
 use Rattle.km_model.specs.Grammar.{Rule, rules, line_by, line_of}
 use Rattle.km_model.specs.Operands.{operand_value}
 use Rattle.km_model.specs.Text.{at_text, value_text, refusal_text, new_text, stopped_text, not_a_command_text, entry, dump_text}
 use Rattle.km_model.specs.Expansion.{world_after, first_acts, Makes}
 
--- the entries that a read prints after a history
-abbrev pub listing_text : ℕ → History → List ℕ
-listing_text words h =
-    flat_map (entry (world_after h).now (memory_after words h)) (listing (past_of h))
+-- the entries that a read prints after a history, where the words hold this
+abbrev pub listing_text : List ℕ → History → List ℕ
+listing_text memory h = flat_map (entry (world_after h).now memory) (listing (past_of h))
 
--- what the answer to an act prints; `word` is the first word of the line
-abbrev pub answer_text : ℕ → List ℕ → History → Act → Answer → List ℕ
-answer_text words word h act.Read Done = listing_text words h
-answer_text words word h _ Done = []
-answer_text words word h _ (At a) = at_text word a
-answer_text words word h _ (Loaded _ _) = []
-answer_text words word h _ (Ended _ new) = new_text new
-answer_text words word h _ (Stopped scan) = stopped_text scan
-answer_text words word h _ Skipped = []
-answer_text words word h _ (Dumped info) = dump_text info
-answer_text words word h _ (Refused r) = refusal_text r
+-- what the answer to an act prints, where the words hold this; `word` is the first word of the line. No line writes `why`, so nothing is said of what it prints
+abbrev pub answer_text : List ℕ → List ℕ → History → Act → Answer → List ℕ
+answer_text memory word h act.Read Done = listing_text memory h
+answer_text memory word h _ Done = []
+answer_text memory word h _ (At a) = at_text word a
+answer_text memory word h _ (Loaded _ _) = []
+answer_text memory word h _ (Ended _ new) = new_text new
+answer_text memory word h _ (Stopped scan) = stopped_text scan
+answer_text memory word h _ Skipped = []
+answer_text memory word h _ (Dumped info) = dump_text info
+answer_text memory word h _ (Refused r) = refusal_text r
 
--- what the newest events of a history print, as many as are counted
-abbrev pub events_text : ℕ → List ℕ → ℕ → History → List ℕ
-events_text words word zero h = []
-events_text words word (suc n) [] = []
-events_text words word (suc n) (e ∷ h) = events_text words word n h ++ answer_text words word h e.act e.answer
+-- what the newest events of a history print, as many as are counted, where the words hold this
+abbrev pub events_text : List ℕ → List ℕ → ℕ → History → List ℕ
+events_text memory word zero h = []
+events_text memory word (suc n) [] = []
+events_text memory word (suc n) (e ∷ h) = events_text memory word n h ++ answer_text memory word h e.act e.answer
 
 -- the first word of an allocation
 abbrev pub keyword : Command → List ℕ
@@ -62,12 +61,15 @@ abbrev pub print_text : History → Command → List ℕ
 print_text h (Print value) = print_value (operand_value (world_after h) value)
 print_text h _ = []
 
--- what a line prints that leads from one history to another
-abbrev pub line_text : ℕ → History → Command → History → List ℕ
-line_text words h c h' =
-    elim (first_acts (world_after h) c) [
+-- what a line prints that leads from one run to another. A line that reads does nothing else, so that the words which
+-- it shows are those before it
+abbrev pub line_text : Run → Command → Run → List ℕ
+line_text run c run' =
+    elim (first_acts (world_after run.history) c) [
       | Err r ↦ refusal_text r
-      | Ok _ ↦ print_text h c ++ events_text words (keyword c) (length h' - length h) h'
+      | Ok _ ↦
+          print_text run.history c
+          ++ events_text run.memory (keyword c) (length run'.history - length run.history) run'.history
     ]
 
 -- a byte stands before the first piece of a list
@@ -93,11 +95,11 @@ is_empty (_ ∷ _) = false
 
 -- the greatest length of a script
 abbrev pub limit : ℕ
-limit = 67108864
+limit = LONGEST_INPUT
 
 -- a line that isn't whole within the limit counts only if its byte 257 is within it
 abbrev pub is_unread : List ℕ → Bool
-is_unread l = nat_le (length l) 256
+is_unread l = nat_le (length l) LONGEST_LINE
 
 -- the lines of a script, as far as they are read
 abbrev pub lines_of : List ℕ → List (List ℕ)
@@ -139,21 +141,21 @@ abbrev pub commands_in : List Rule → Bool → List (List ℕ) → ℕ
 commands_in table first [] = 0
 commands_in table first (l ∷ ls) = commands_then first (line_by table first l) (λ first'. commands_in table first' ls)
 
--- a script between two lines: not begun, or with its number of words and its history
+-- a script between two lines: not begun, or with its run
 pub data Script : Type 0 where
   Fresh : Script
-  Begun : (words : ℕ) → (h : History) → Script
+  Begun : (run : Run) → Script
 
 -- whether no command was read yet
 abbrev pub is_fresh : Script → Bool
 is_fresh Fresh = true
-is_fresh (Begun _ _) = false
+is_fresh (Begun _) = false
 
 -- a command leads from one state of a script to another, and prints a text
 abbrev pub Leads : Script → Command → Script → List ℕ → Type 0
-Leads Fresh (Memory words) s out = (s ≡ Begun words []) × (out ≡ [])
+Leads Fresh (Memory words) s out = (s ≡ Begun (first_run words)) × (out ≡ [])
 Leads Fresh _ s out = ⊥
-Leads (Begun words h) c s out = (h' : History) × Makes words h c h' × (s ≡ Begun words h') × (out ≡ line_text words h c h')
+Leads (Begun run) c s out = (run' : Run) × Makes run c run' × (s ≡ Begun run') × (out ≡ line_text run c run')
 
 -- a line that isn't refused
 abbrev pub LeadsLine : Script → Line → Script → List ℕ → Type 0

@@ -18,14 +18,15 @@ ghost use Rattle.km_state.specs.StateAfter.{forgotten_at, painted, part_freed, r
 ghost use Rattle.km_state.specs.StateAnswers.{info_in, state_answer};
 ghost use Rattle.km_state.specs.StateNext.{next_in};
 ghost use Rattle.km_tasks.specs.Roll.{Roll};
-ghost use Rattle.km_track.specs.Tracker.{live_where, meets, AreRising, Live, NeverMeet, begins, id_of};
+ghost use Rattle.km_track.specs.Tracker.{live_where, meets, AreRising, Live, NeverMeet};
 ghost use Rattle.km_words.specs.Told.{IsGiven, loaded_in};
 
 use crate::step;
+use km_base::sizes::{BASE, PAGE};
 use km_base::{Addr, Answer, Info, NoMemory, Refusal, Span};
 use km_free_part::{PartFault, check_part, split};
 use km_map::ObjectMap;
-use km_record::{Paint, RecId};
+use km_record::Paint;
 use km_scan::Scanner;
 use km_tasks::Tasks;
 use km_track::{AreaRefusal, Track};
@@ -33,12 +34,6 @@ use km_verdict::{clear, dump};
 use km_words::Words;
 use std::alloc::Global;
 use std::marker::Model;
-
-/// The address of the first page, that of the vmap slots.
-const BASE: u64 = 0xffff_8880_0000_0000;
-
-/// The bytes of a page.
-const PAGE: u64 = 4096;
 
 /// Changes nothing: it is called for what its contract tells of live blocks at any time.
 fn observe<M: ObjectMap>(track: &Track<M>)
@@ -126,27 +121,12 @@ impl<M: ObjectMap> Objects<M> {
         ensures agree { (roll : Roll) → Agree self.old roll → Agree self.new roll }
         ensures places { places self.new ≡ places self.old }
     {
-        let Some(id) = self.beginning_at(start) else {
+        observe(&self.track);
+        let Some(id) = self.track.starting_at(start) else {
             return;
         };
         self.scanner.forget(&self.track, id);
         let _ = self.track.unregister(start);
-    }
-
-    /// The block that begins at an address.
-    fn beginning_at(&self, start: Addr) -> Option<RecId>
-        ensures found { result ≡ option_map id_of (live_where (begins start.0) self.now.tracker) }
-        ensures apart { NeverMeet self.now.tracker.live }
-        ensures rising { AreRising 0 self.now.tracker.live self.now.tracker.registered }
-    {
-        observe(&self.track);
-        let id = self.track.look(start)?;
-        let record = self.track.record(id)?;
-        if record.span.start == start {
-            Some(id)
-        } else {
-            None
-        }
     }
 
     /// Takes a part out of the block that has its first byte. Where `keep` is true, what is left in front and behind

@@ -8,6 +8,7 @@ use Rattle.km_pages.specs.Runs.{run_with, run_from, length_if, with_run, AreRuns
 use Rattle.km_pages.proofs.FirstFit.{IsFit, are_free_at}
 use Rattle.km_pages.proofs.Touching.{run_at_page}
 use Rattle.km_model.specs.Placement.{page_start}
+use Rattle.km_model.proofs.Cases.{none_some, some_same}
 use Rattle.km_pages.proofs.Writes.{inside, outside, where_is, length_written}
 
 pub same_self : (k : Use) → same_use k k ≡ true
@@ -110,12 +111,6 @@ known pages p n run q s room h =
       | inl here ↦ inl (here.0, here.1, sym (inside pages p n run q room here.0 here.1) ∙ h)
       | inr there ↦ inr (there, sym (outside pages p n run q room there) ∙ h)
     ]
-
-some_same : (x y : Run) → Some x ≡ Some y → x ≡ y
-some_same x y e = cc
-
-none_some : (y : Run) → (let o : Option Run = None in o) ≡ Some y → ⊥
-none_some y e = cc
 
 -- pages that are all one run's or free, and the others
 pub record Written (pages : List (Option Run)) (p n : ℕ) (run : Option Run) : Type 0 where

@@ -4,6 +4,7 @@ use Rattle.std.proofs.lemmas.List.{get_or_past}
 use Rattle.km_pages.specs.declared.runs.Run.{Run}
 use Rattle.km_pages.specs.Runs.{is_free, are_free, lowest_free, first_fit}
 use Rattle.km_model.specs.Placement.{least_from}
+use Rattle.km_model.proofs.Pages.{least_passes}
 
 -- the least number that passes
 pub least_is : (test : ℕ → Bool) (left n m : ℕ) → ((q : ℕ) → n ≤ q → q < m → test q ≡ false) → test m ≡ true → n ≤ m → m ≤ n + left → least_from test left n ≡ m
@@ -18,16 +19,7 @@ least_is test (suc left) n m below h low high =
       ]
     ] refl
 
--- a search up to a number that passes finds one that does, and none below it
-pub least_passes : (test : ℕ → Bool) (left n : ℕ) → test (n + left) ≡ true → test (least_from test left n) ≡ true
-least_passes test zero n h = subst (λ k. test k ≡ true) (add-zero n) h
-least_passes test (suc left) n h =
-    let Goal = λ (q : Bool). test n ≡ q → test (elim q as (λ _. ℕ) [ true ↦ n | false ↦ least_from test left (n + 1) ]) ≡ true in
-    elim (test n) as Goal [
-      | true ↦ λ e. e
-      | false ↦ λ e. least_passes test left (n + 1) (let same : n + suc left ≡ n + 1 + left = omega arith in subst (λ k. test k ≡ true) same h)
-    ] refl
-
+-- none below it passes
 pub least_before : (test : ℕ → Bool) (left n q : ℕ) → n ≤ q → q < least_from test left n → test q ≡ false
 least_before test zero n q low high = absurd (omega (arith, low, high))
 least_before test (suc left) n q low high =

@@ -5,6 +5,8 @@ use Rattle.std.proofs.lemmas.List.Elements.{All-push}
 use Rattle.std.proofs.lemmas.List.Folds.{list_any-append}
 use Rattle.km_model.specs.Memory.{base}
 use Rattle.km_model.specs.Placement.{Allocation, Use, SlotTable, SectionRun, StackPage, SlabBlock, LargeRun, PlainRun, BootRun, HeadBlock, AreaRun, page_start, page_of, touches, is_free_page, is_slab_block, without_allocation}
+use Rattle.km_model.proofs.Cases.{some_same}
+use Rattle.km_model.proofs.Pages.{touch}
 use Rattle.km_pages.specs.declared.runs.Use as kinds
 use Rattle.km_pages.specs.declared.runs.Use.TheVariants.{Slab}
 use Rattle.km_pages.specs.declared.runs.Run.{Run}
@@ -13,7 +15,7 @@ use Rattle.km_pages.specs.Runs.{run_with, is_free, are_free, with_run, AreRuns}
 use Rattle.km_pages.specs.Laid.{IsIn, IsLaid, AreLaid, Fills, BeginAt}
 use Rattle.km_pages.proofs.FirstFit.{IsFit, are_free_at}
 use Rattle.km_pages.proofs.Writes.{inside, outside, where_is}
-use Rattle.km_pages.proofs.Touching.{touch, in_run, begins_in, page_between}
+use Rattle.km_pages.proofs.Touching.{in_run, begins_in, page_between}
 
 -- All, one by one
 all_first : {X : Type 0} (P : X → Type 0) (x : X) (xs : List X) → All P (x ∷ xs) → P x
@@ -59,9 +61,7 @@ not_free : (pages : List (Option Run)) (p : ℕ) (run : Run) → run_with pages 
 not_free pages p run h free = both_ways (is_free pages p) (ap is_none h) free
 
 pub same_run : (pages : List (Option Run)) (p : ℕ) (r s : Run) → run_with pages p ≡ Some r → run_with pages p ≡ Some s → r ≡ s
-same_run pages p r s a b = some_same r s (sym a ∙ b) where
-  some_same : (x y : Run) → Some x ≡ Some y → x ≡ y
-  some_same x y e = cc
+same_run pages p r s a b = some_same r s (sym a ∙ b)
 
 -- an allocation and free pages have no byte in common
 pub apart_free : (pages : List (Option Run)) (n p : ℕ) (x : Allocation) → 0 < n → are_free pages n p ≡ true → IsLaid pages x → (x.start + x.size ≤ page_start p) ⊎ (page_start p + 4096 * n ≤ x.start)

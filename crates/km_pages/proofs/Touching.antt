@@ -5,6 +5,7 @@ use Rattle.std.proofs.lemmas.List.{get_or_past}
 use Rattle.std.proofs.lemmas.List.Folds.{Any-from_list_any}
 use Rattle.km_model.specs.Memory.{base}
 use Rattle.km_model.specs.Placement.{Allocation, page_start, page_of, touches, is_free_page, are_free_pages, page_behind, lowest_run, run_place}
+use Rattle.km_model.proofs.Pages.{behind_end, touch, touched}
 use Rattle.km_pages.specs.declared.runs.Run.{Run}
 use Rattle.km_pages.specs.declared.runs.Use.{Use}
 use Rattle.km_pages.specs.Runs.{run_with, run_at, length_if, is_free, are_free, lowest_free, place}
@@ -20,14 +21,6 @@ page_of_start b p = omega arith
 
 pages_touched : (b first len p start size : ℕ) → b + 4096 * first ≤ start → start + size ≤ b + 4096 * (first + len) → start < b + 4096 * (p + 1) → b + 4096 * p < start + size → (first ≤ p) × (p < first + len)
 pages_touched b first len p start size low high x y = (omega (arith, low, x), omega (arith, high, y))
-
-pub touched : (p : ℕ) (x : Allocation) → touches p x ≡ true → (x.start < page_start (p + 1)) × (page_start p < x.start + x.size)
-touched p x h =
-    let parts = and_parts (nat_lt x.start (page_start (p + 1))) (nat_lt (page_start p) (x.start + x.size)) h in
-    (ltb-true x.start (page_start (p + 1)) parts.0, ltb-true (page_start p) (x.start + x.size) parts.1)
-
-pub touch : (p : ℕ) (x : Allocation) → x.start < page_start (p + 1) → page_start p < x.start + x.size → touches p x ≡ true
-touch p x a b = and_from (nat_lt x.start (page_start (p + 1))) (nat_lt (page_start p) (x.start + x.size)) (lt-ltb x.start (page_start (p + 1)) a) (lt-ltb (page_start p) (x.start + x.size) b)
 
 -- the pages that an allocation touches are its run's
 pub in_run : (p : ℕ) (run : Run) (x : Allocation) → IsIn run x → touches p x ≡ true → (run.first ≤ p) × (p < run.first + run.len)
@@ -64,9 +57,6 @@ are_free_same pages used (suc n) p laid =
     ap (λ b. b && are_free_pages used n (p + 1)) here ∙ ap (λ b. is_free pages p && b) rest
 
 -- behind all allocations the pages are free
-behind_end : (e b p : ℕ) → (e + 4095 - b) / 4096 ≤ p → e ≤ b + 4096 * p
-behind_end e b p le = omega (arith, le)
-
 behind : (used : List Allocation) (p : ℕ) → page_behind used ≤ p → list_any (touches p) used ≡ false
 behind [] p le = refl
 behind (x ∷ used) p le =

@@ -15,15 +15,10 @@ ghost use Rattle.km_pages.specs.Laid.{AreLaid, BeginAt, Fills};
 
 use crate::errors::{NoRoom, NotAllocated};
 use crate::runs::{Run, Use};
+use km_base::sizes::{BASE, PAGE};
 use km_base::{Addr, NoMemory};
 use std::alloc::Global;
 use std::marker::Model;
-
-/// The address of the first page.
-const BASE: u64 = 0xffff_8880_0000_0000;
-
-/// The bytes of a page.
-const PAGE: u64 = 4096;
 
 /// The pages of a memory, each with the run that has it, or free.
 #[derive(Drop)]

@@ -54,56 +54,6 @@ passes test (x ∷ ls) l e =
       | false ↦ λ f g. passes test ls l g
     ] refl e
 
--- a block begins where its first byte is, and no other has that byte
-first_byte : (b : Block) → 0 < b.size → contains b.start b ≡ true
-first_byte b s = and_from (leb b.start b.start) (ltb b.start (b.start + b.size)) (le-leb b.start b.start (omega arith)) (lt-ltb b.start (b.start + b.size) (omega (arith, s)))
-
-apart_has : (b c : Block) (a : ℕ) → AreApart b c → 0 < c.size → contains a b ≡ true → c.start ≡ a → ⊥
-apart_has b c a h s e f =
-    let p = and_parts (leb b.start a) (ltb a (b.start + b.size)) e in
-    let low = leb-true b.start a p.0 in
-    let high = ltb-true a (b.start + b.size) p.1 in
-    elim h as (λ _. ⊥) [ inl u ↦ omega (arith, u, high, f) | inr u ↦ omega (arith, u, low, f, s) ]
-
-none_begins : (b : Block) (ls : List Live) (a : ℕ) → IsApartFrom b ls → NeverMeet ls → contains a b ≡ true → find (λ (l : Live). begins a l.tracked.block) ls ≡ None
-none_begins b [] a h n e = refl
-none_begins b (x ∷ ls) a h n e =
-    rw (ne_eqb x.tracked.block.start a (λ f. apart_has b x.tracked.block a h.0 n.0 e f)) (none_begins b ls a h.1 n.2 e)
-
-abbrev begun_at : ℕ → Option Live → Option Live
-begun_at a None = None
-begun_at a (Some l) = if begins a l.tracked.block then Some l else None
-
--- the block that begins at an address is the one that has the byte there, where that begins there
-begins_is : (ls : List Live) (a : ℕ) → NeverMeet ls → find (λ (l : Live). begins a l.tracked.block) ls ≡ begun_at a (find (λ (l : Live). contains a l.tracked.block) ls)
-begins_is [] a n = refl
-begins_is (x ∷ ls) a n =
-    elim (begins a x.tracked.block) as (λ b. begins a x.tracked.block ≡ b → cond b (Some x) (find (λ (l : Live). begins a l.tracked.block) ls) ≡ begun_at a (find (λ (l : Live). contains a l.tracked.block) (x ∷ ls))) [
-      | true ↦ λ e.
-          let here : contains a x.tracked.block ≡ true = subst (λ n. contains n x.tracked.block ≡ true) (eqb-true x.tracked.block.start a e) (first_byte x.tracked.block n.0) in
-          sym (ap (λ b. begun_at a (cond b (Some x) (find (λ (l : Live). contains a l.tracked.block) ls))) here ∙ ap (λ b. if b then Some x else None) e)
-      | false ↦ λ e. elsewhere (begins_is ls a n.2) e (contains a x.tracked.block) refl
-    ] refl
-  where
-    elsewhere : find (λ (l : Live). begins a l.tracked.block) ls ≡ begun_at a (find (λ (l : Live). contains a l.tracked.block) ls) → begins a x.tracked.block ≡ false → (b : Bool) → contains a x.tracked.block ≡ b → find (λ (l : Live). begins a l.tracked.block) ls ≡ begun_at a (cond (contains a x.tracked.block) (Some x) (find (λ (l : Live). contains a l.tracked.block) ls))
-    elsewhere rest e true f = none_begins x.tracked.block ls a n.1 n.2 f ∙ sym (ap (λ b. begun_at a (cond b (Some x) (find (λ (l : Live). contains a l.tracked.block) ls))) f ∙ ap (λ b. if b then Some x else None) e)
-    elsewhere rest e false f = rest ∙ sym (ap (λ b. begun_at a (cond b (Some x) (find (λ (l : Live). contains a l.tracked.block) ls))) f)
-
-pub begun_none : (t : Tracker) (a : ℕ) → NeverMeet t.live → None ≡ option_map id_of (live_where (contains a) t) → None ≡ option_map id_of (live_where (begins a) t)
-begun_none t a n e = sym (ap (option_map id_of) (begins_is t.live a n) ∙ none (live_where (contains a) t) e)
-  where
-    none : (o : Option Live) → None ≡ option_map id_of o → option_map id_of (begun_at a o) ≡ None
-    none None f = refl
-    none (Some l) f = absurd (let z : ⊥ = cc in z)
-
-pub begun_is : (t : Tracker) (a : ℕ) (id : RecId) (k : Looked (contains a) t id) (b : Bool) → NeverMeet t.live → begins a k.it.tracked.block ≡ b → (if b then Some id else None) ≡ option_map id_of (live_where (begins a) t)
-begun_is t a id k b n e =
-    sym (ap (option_map id_of) (begins_is t.live a n ∙ ap (begun_at a) k.found ∙ ap (λ c. if c then Some k.it else None) e) ∙ at b)
-  where
-    at : (b : Bool) → option_map id_of (if b then Some k.it else None) ≡ (if b then Some id else None)
-    at true = ap (λ (i : RecId). Some i) (sym k.its)
-    at false = refl
-
 -- the start of a block that was looked up and read
 pub looked_start : (test : Block → Bool) (t : Tracker) (id : RecId) (k : Looked test t id) (r : Record) → AreRising 0 t.live t.registered → Some (record { slot = id.slot; tracked = tracked_of id.generation r }) ≡ live_with id t
     → k.it.tracked ≡ tracked_of id.generation r

@@ -3,7 +3,7 @@
 ghost use Rattle.std.specs.Prelude.{◌≡◌, ◌≢◌, true, None, Some, IfSome, option_map};
 ghost use Rattle.km_state.specs.State.{is_white_now};
 ghost use Rattle.km_state.specs.StateNext.{hit_in};
-ghost use Rattle.km_track.specs.Tracker.{AreRising, Live, NeverMeet, begins, id_of, live_where, live_with, tracked_in};
+ghost use Rattle.km_track.specs.Tracker.{AreRising, Live, live_with, tracked_in};
 ghost use Rattle.km_model.specs.Past.{Place};
 ghost use Rattle.km_scan.specs.Stand.{hit_at, hit_told, holder_of};
 
@@ -13,31 +13,16 @@ use km_map::ObjectMap;
 use km_record::{Colour, RecId};
 use km_track::Track;
 
-/// The block that begins at an address.
-fn beginning_at<M: ObjectMap>(track: &Track<M>, start: Addr) -> Option<RecId>
-    requires { NeverMeet track.now.live }
-    ensures { result ≡ option_map id_of (live_where (begins start.0) track.now) }
-{
-    let id = track.look(start)?;
-    let record = track.record(id)?;
-    if record.span.start == start {
-        Some(id)
-    } else {
-        None
-    }
-}
-
 /// The white block, other than the holder, to which the references to a grey block are passed on.
 fn passed_on<M: ObjectMap>(
     track: &Track<M>,
     holder: Option<u64>,
     excess: Option<Addr>,
 ) -> Option<RecId>
-    requires { NeverMeet track.now.live }
     ensures hit { (place : Place) → holder ≡ holder_of place → option_map (λ i. i.generation) result ≡ hit_at (tracked_in track.now) place (option_map (λ a. a.0) excess) }
     ensures live { IfSome result (λ i. (l : Live) × (live_with i track.now ≡ Some l) × (is_white_now l.tracked ≡ true)) }
 {
-    let to = beginning_at(track, excess?)?;
+    let to = track.starting_at(excess?)?;
     if holder == Some(to.generation) || !is_white(track, to) {
         return None;
     }

@@ -10,10 +10,11 @@ ghost use Rattle.km_scan.specs.Stand.{FitsDue, IsStackWord, StackEnds};
 
 use crate::places::At;
 use km_base::Addr;
+use km_base::sizes::PAGE;
 use km_tasks::Tasks;
 
 /// The bytes from the first word of a stack to its last.
-const TO_LAST: u64 = 4088;
+const TO_LAST: u64 = PAGE - 8;
 
 /// The word behind another in the stack of a task, where that lives.
 pub fn word_behind(tasks: &Tasks, task: u64, word: Addr) -> Option<At>

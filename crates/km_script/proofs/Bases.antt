@@ -5,10 +5,10 @@ use Rattle.std.proofs.lemmas.Iterator.Adapters.{position_from-zero}
 use Rattle.km_base.specs.Names.{is_letter, name_of}
 use Rattle.km_base.specs.Numbers.{decimal_digit}
 use Rattle.km_base.specs.declared.acts.Reg.{Reg}
-use Rattle.km_model.specs.declared.lines.Base.{Base}
-use Rattle.km_model.specs.declared.lines.Base.TheVariants as base
-use Rattle.km_model.specs.declared.lines.Operand.{Operand}
-use Rattle.km_model.specs.declared.lines.RegName.{RegName}
+use Rattle.km_base.specs.declared.lines.Base.{Base}
+use Rattle.km_base.specs.declared.lines.Base.TheVariants as base
+use Rattle.km_base.specs.declared.lines.Operand.{Operand}
+use Rattle.km_base.specs.declared.lines.RegName.{RegName}
 use Rattle.km_model.specs.Grammar.{base_of, number, operand, reg_name, register_base, register_of, register_suffix, with_plus}
 use Rattle.km_model.specs.Pieces.{behind_first, up_to}
 use Rattle.km_script.specs.Bytes.{is_digit}

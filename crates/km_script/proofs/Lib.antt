@@ -1,6 +1,5 @@
 pub mod Pieces
 pub mod Cuts
-pub mod Prefix
 pub mod Foreign
 pub mod Noted
 pub mod Bases

@@ -1,7 +1,7 @@
 use Rattle.std.proofs.Common.{◌≡◌, ℕ, Bool, true, false, List, [], ◌∷◌, Option, Some, None, Result, Err, map, refl, ap, sym, ◌∙◌, bytes_eq, codes, if◌then◌else◌}
 use Rattle.std.proofs.lemmas.Slice.Eq.{bytes_eq-Decides}
-use Rattle.km_model.specs.declared.lines.Line.{Line}
-use Rattle.km_model.specs.declared.lines.NotACommand.{NotACommand}
+use Rattle.km_base.specs.declared.lines.Line.{Line}
+use Rattle.km_base.specs.declared.lines.NotACommand.{NotACommand}
 use Rattle.km_model.specs.Held.{same_bool}
 use Rattle.km_model.specs.Pieces.{Piece}
 use Rattle.km_model.specs.Grammar.{Rule, Reading, rules, apply_rule, as_line, refused_at, words_read}

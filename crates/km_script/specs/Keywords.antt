@@ -1,6 +1,6 @@
 use Rattle.std.specs.Prelude.{ℕ, List, [], ◌∷◌, Option, Some, None, bytes_eq, codes, if◌then◌else◌}
 use Rattle.km_base.specs.Names.{name_of}
-use Rattle.km_model.specs.declared.lines.Command.TheVariants as command
+use Rattle.km_base.specs.declared.lines.Command.TheVariants as command
 use Rattle.km_model.specs.Grammar.{Reading, allocation, alone, any_word, file_command, memory_size, number, number_within, one_word, operand, register_of, two_words}
 use Rattle.km_model.specs.Pieces.{Piece}
 use Rattle.km_script.specs.declared.keywords.Keyword.{Keyword}

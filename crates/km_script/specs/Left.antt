@@ -1,6 +1,6 @@
 use Rattle.std.specs.Prelude.{ℕ, List, [], ◌∷◌, drop, Option, Some, None, option_map, Result, Ok, Err}
-use Rattle.km_model.specs.declared.lines.NotACommand.{NotACommand}
-use Rattle.km_model.specs.declared.lines.RegName.{RegName}
+use Rattle.km_base.specs.declared.lines.NotACommand.{NotACommand}
+use Rattle.km_base.specs.declared.lines.RegName.{RegName}
 use Rattle.km_model.specs.Grammar.{register_of}
 use Rattle.km_model.specs.Pieces.{Piece}
 

@@ -1,6 +1,6 @@
 use Rattle.std.specs.Prelude.{ℕ, List, Option, Some, option_map, bytes_eq, codes, if◌then◌else◌}
-use Rattle.km_model.specs.declared.lines.Base.{Base}
-use Rattle.km_model.specs.declared.lines.Base.TheVariants as base
+use Rattle.km_base.specs.declared.lines.Base.{Base}
+use Rattle.km_base.specs.declared.lines.Base.TheVariants as base
 use Rattle.km_model.specs.Grammar.{register_suffix}
 use Rattle.km_script.specs.declared.operands.Role.{Role}
 use Rattle.km_script.specs.declared.operands.Role.TheVariants as role

@@ -1,6 +1,5 @@
 use Rattle.std.specs.Prelude.{◌≡◌, ℕ, ◌+◌, ◌<◌, false, List, ◌∷◌, length, drop}
 use Rattle.std.specs.List.{prefix_len}
-use Rattle.std.specs.Borrow.{Bor}
 use Rattle.km_model.specs.Pieces.{Piece, is_blank}
 use Rattle.km_script.specs.declared.word.Word.{Word}
 
@@ -22,7 +21,3 @@ pub record IsFirstVisible (bytes : List ℕ) (blanks first : ℕ) : Type 0 where
   pub within : blanks < length bytes
   pub from : drop blanks bytes ≡ first ∷ drop (blanks + 1) bytes
   pub visible : is_blank first ≡ false
-
--- the bytes of a slice
-abbrev pub bytes_of : Bor (List ℕ) → List ℕ
-bytes_of b = b.now

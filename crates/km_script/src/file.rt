@@ -3,9 +3,9 @@
 ghost use Rattle.std.specs.Prelude.{◌≡◌, ◌∷◌, ◌++◌, codes, Some, None, if◌then◌else◌};
 ghost use Rattle.km_model.specs.Grammar.{file_command as command_of_word};
 
-use crate::compare::{behind, is};
 use crate::numbers::{number, number_within};
 use km_base::FileCmd;
+use km_base::compare::{behind, is};
 
 /// The longest period of automatic scans, in seconds.
 const LONGEST_PERIOD: u64 = 86_400;

@@ -3,7 +3,7 @@
 ghost use Rattle.std.specs.Prelude.{◌≡◌, ◌∷◌, ◌++◌, bytes_eq, codes, if◌then◌else◌, Some, None};
 ghost use Rattle.km_script.specs.Keywords.{all_keywords, keyword_in, text_of};
 
-use crate::compare::is;
+use km_base::compare::is;
 
 /// The first word of a command.
 #[derive(Clone, Copy, Debug, PartialEq)]

@@ -2,7 +2,6 @@
 #![tactic(auto)]
 
 mod bytes;
-mod compare;
 mod file;
 mod keywords;
 mod line;
@@ -15,5 +14,5 @@ mod word;
 mod words;
 
 pub use file::file_command;
-pub use km_model::{Base, Command, Line, NotACommand, Operand, RegName};
+pub use km_base::{Base, Command, Line, NotACommand, Operand, RegName};
 pub use line::read_line;

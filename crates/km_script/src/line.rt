@@ -10,10 +10,8 @@ use crate::keywords::Keyword;
 use crate::rules::read_by;
 use crate::word::Word;
 use crate::words::Words;
-use km_model::{Command, Line, NotACommand};
-
-/// The greatest length of a line without its line feed, in bytes.
-const LONGEST_LINE: usize = 256;
+use km_base::sizes::{LONGEST_LINE, TOO_LONG};
+use km_base::{Command, Line, NotACommand};
 
 /// Whether a command may stand where it does: `memory` as the first command, and every other as a later one.
 fn may_stand(keyword: Keyword, first: bool) -> bool
@@ -58,7 +56,7 @@ pub fn read_line(bytes: &[u8], first: bool) -> Result<Line, NotACommand>
     ensures { result ≡ line_of first bytes.now }
 {
     if bytes.len() > LONGEST_LINE {
-        return Err(NotACommand { column: 257 });
+        return Err(NotACommand { column: TOO_LONG });
     }
     let mut words = Words::of(bytes);
     let Some(word) = words.next() else {

@@ -3,12 +3,8 @@
 ghost use Rattle.std.specs.Prelude.{◌≡◌, ◌∷◌};
 ghost use Rattle.km_model.specs.Grammar.{memory_size as memory_size_of, number as number_of, number_within as number_of_range};
 
+use km_base::sizes::{MOST_WORDS, PAGE_WORDS};
 use km_base::{read_number, read_number_behind};
-
-/// The least and the greatest number of words that a memory can have.
-const LEAST_MEMORY: u64 = 512;
-
-const GREATEST_MEMORY: u64 = 4_194_304;
 
 /// A number of at most 64 bits.
 pub fn number(word: &[u8]) -> Option<u64>
@@ -35,5 +31,5 @@ pub fn number_within(low: u64, high: u64, first: u8, rest: &[u8]) -> Option<u64>
 pub fn memory_size(first: u8, rest: &[u8]) -> Option<u64>
     ensures { result ≡ memory_size_of (first ∷ rest.now) }
 {
-    number_within(LEAST_MEMORY, GREATEST_MEMORY, first, rest).filter(|n| *n % 512 == 0)
+    number_within(PAGE_WORDS, MOST_WORDS, first, rest).filter(|n| *n % PAGE_WORDS == 0)
 }

@@ -10,11 +10,10 @@ ghost use Rattle.km_script.specs.Roles.{base_in, suffix_role};
 ghost use Rattle.km_script.specs.Words.{bytes_of_word};
 
 use crate::bytes::is_digit;
-use crate::compare::is;
 use crate::numbers::{number, number_behind};
 use crate::word::Word;
-use km_base::{Name, Reg};
-use km_model::{Base, Operand, RegName};
+use km_base::compare::is;
+use km_base::{Base, Name, Operand, Reg, RegName};
 
 /// What stands before a place, and what stands behind it.
 fn cut_at(place: Option<usize>, bytes: &[u8]) -> Option<(&[u8], &[u8])>

@@ -3,11 +3,11 @@
 ghost use Rattle.std.specs.Prelude.{◌≡◌};
 ghost use Rattle.km_base.specs.Names.{name_of};
 ghost use Rattle.km_model.specs.Grammar.{allocation, alone, any_word, file_command as file_command_of, memory_size, number, number_within, one_word, operand, register_of, two_words};
-ghost use Rattle.km_model.specs.declared.lines.Command.TheVariants as command;
+ghost use Rattle.km_base.specs.declared.lines.Command.TheVariants as command;
 
 use crate::file::file_command_behind;
 use crate::words::Words;
-use km_model::{Base, Command, NotACommand, Operand};
+use km_base::{Base, Command, NotACommand, Operand};
 
 /// The longest time that a line lets pass, in milliseconds.
 const LONGEST_TICK: u64 = 3_600_000;

@@ -6,7 +6,7 @@ ghost use Rattle.km_script.specs.Keywords.{read_as};
 use crate::keywords::Keyword;
 use crate::rows;
 use crate::words::Words;
-use km_model::{Command, NotACommand};
+use km_base::{Command, NotACommand};
 
 /// The command that begins with a keyword, and has these words behind it.
 pub fn read_by(keyword: Keyword, words: &mut Words) -> Result<Command, NotACommand>

@@ -14,8 +14,7 @@ use crate::marks::marks_of;
 use crate::numbers::{memory_size, number_behind, number_within};
 use crate::operands::{operand, register_of};
 use crate::word::Word;
-use km_base::Name;
-use km_model::{NotACommand, Operand, RegName};
+use km_base::{Name, NotACommand, Operand, RegName};
 use std::marker::Model;
 
 impl<'a> Word<'a> {

@@ -5,6 +5,7 @@ use Rattle.std.proofs.lemmas.List.Elements.{All-push}
 use Rattle.std.proofs.lemmas.List.Folds.{list_any-append}
 use Rattle.km_model.specs.Memory.{base}
 use Rattle.km_model.specs.Placement.{Allocation, Use, SlotTable, SectionRun, StackPage, SlabBlock, LargeRun, PlainRun, BootRun, HeadBlock, AreaRun, page_start, page_of, touches, is_slab_block, kmalloc_span, kmalloc_use, without_allocation}
+use Rattle.km_model.proofs.Cases.{some_same}
 use Rattle.km_pages.specs.declared.runs.Use as kinds
 use Rattle.km_pages.specs.declared.runs.Use.TheVariants.{Plain, Section, Stack, Slab, Large, Vmalloc, Boot}
 use Rattle.km_pages.specs.declared.runs.Run.{Run}
@@ -100,9 +101,6 @@ whole_run run o here kind =
 
 large_run : (pages : List (Option Run)) (a : ℕ) (x : Allocation) (w : IsWhole pages a x) → run_at pages Large a ≡ Some w.run.len
 large_run pages a x w = run_at_page pages Large a w.run.first w.start ∙ whole_run w.run (run_with pages w.run.first) w.here w.kind
-
-some_same : (a b : ℕ) → Some a ≡ Some b → a ≡ b
-some_same a b e = cc
 
 -- the block that begins where a large run does has all of it
 pub large_size : (pages : List (Option Run)) (used : List Allocation) (a n : ℕ) → AreLaid pages used → run_at pages Large a ≡ Some n

@@ -4,11 +4,12 @@ use Rattle.std.proofs.lemmas.Bool.{and_parts, both_ways, cases_eq, eq-eqb, eqb-t
 use Rattle.std.proofs.lemmas.List.{get_or-set_same, get_or-set_other, length-set}
 use Rattle.km_model.specs.Memory.{base}
 use Rattle.km_model.specs.Placement.{Allocation, page_start, page_of, touches, is_free_page, is_slab_block, without_allocation}
+use Rattle.km_model.proofs.Pages.{touch}
 use Rattle.km_pages.specs.declared.runs.Run.{Run}
 use Rattle.km_pages.specs.declared.runs.Use.TheVariants.{Slab}
 use Rattle.km_pages.specs.Runs.{run_at, run_with, run_from}
 use Rattle.km_pages.specs.Laid.{IsIn, IsLaid, AreLaid, BeginAt}
-use Rattle.km_pages.proofs.Touching.{touch, in_run, begins_in, run_at_page}
+use Rattle.km_pages.proofs.Touching.{in_run, begins_in, run_at_page}
 use Rattle.km_pages.proofs.Laying.{all_left, any_left, same_run}
 use Rattle.km_marks.specs.Sets.{has}
 use Rattle.km_slab.specs.Blocks.{Sheets, AreMarks, has_place, class_at, is_live, slot_start, is_slot, IsSlot, Loses, AreBlocks, Fits}

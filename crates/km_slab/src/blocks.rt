@@ -14,12 +14,9 @@ ghost use Rattle.km_slab.specs.Tables.{IsKept, sheets};
 use crate::classes::class_for;
 use crate::large::take_large;
 use crate::small::take_small;
-use crate::table::Table;
+use crate::table::{PAGE, Table};
 use km_base::Span;
 use km_pages::{NoRoom, Pages};
-
-/// The most bytes of a slab block.
-const PAGE: u32 = 4096;
 
 /// Allocates a block: a slot of a slab page up to 4096 bytes, whole pages above.
 pub fn take_block(table: &mut Table, pages: &mut Pages, size: u32) -> Result<Span, NoRoom>

@@ -1,10 +1,9 @@
 //! The sizes of slab blocks.
 
-ghost use Rattle.std.specs.Prelude.{◌≡◌, ◌<◌, ◌≤◌};
-ghost use Rattle.km_model.specs.Placement.{class_of, pages_for};
+ghost use Rattle.std.specs.Prelude.{◌≡◌, ◌/◌, ◌<◌, ◌≤◌};
+ghost use Rattle.km_model.specs.Placement.{class_of, kmalloc_span, pages_for};
 
-/// The sizes that slab blocks have.
-const CLASSES: [u32; 12] = [8, 16, 32, 64, 96, 128, 192, 256, 512, 1024, 2048, 4096];
+use km_base::sizes::CLASSES;
 
 /// The least class that isn't smaller than a size of at most 4096 bytes.
 pub fn class_for(size: u32) -> u32
@@ -28,4 +27,18 @@ pub fn pages_needed(size: u32) -> u32
     ensures some { 0 < size → 0 < result }
 {
     (size + 4095) / 4096
+}
+
+/// The words of a block that a request of so many bytes is given, none where there is no such block.
+pub fn words_for(size: u64) -> u64
+    ensures words { size ≤ 32768 → result ≡ kmalloc_span size / 8 }
+    ensures few { result ≤ 4096 }
+{
+    if size <= 4096 {
+        class_for(size as u32) as u64 / 8
+    } else if size <= 32768 {
+        4096 * ((size + 4095) / 4096) / 8
+    } else {
+        0
+    }
 }

@@ -11,11 +11,9 @@ ghost use Rattle.km_pages.specs.Laid.{AreLaid};
 ghost use Rattle.km_slab.specs.Blocks.{is_large_at, start_of};
 
 use crate::classes::pages_needed;
+use km_base::sizes::PAGE;
 use km_base::{Addr, Span};
 use km_pages::{NoRoom, NotAllocated, Pages, Use};
-
-/// The bytes of a page.
-const PAGE: u64 = 4096;
 
 /// Allocates a block of as many pages as a size needs.
 pub fn take_large(pages: &mut Pages, size: u32) -> Result<Span, NoRoom>

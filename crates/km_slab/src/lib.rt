@@ -10,5 +10,6 @@ pub mod slab;
 mod small;
 mod table;
 
+pub use classes::{class_for, words_for};
 pub use errors::SlabFault;
 pub use slab::Slab;

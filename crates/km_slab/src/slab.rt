@@ -15,7 +15,7 @@ use crate::blocks::take_block;
 use crate::errors::SlabFault;
 use crate::large::give_large;
 use crate::small::give_small;
-use crate::table::{Table, slot_at};
+use crate::table::{SLOT_WORDS, SLOTS, Table, slot_at};
 use km_base::{Addr, NoMemory, Span};
 use km_marks::Marks;
 use km_pages::{NoRoom, NotAllocated, Pages};
@@ -24,12 +24,6 @@ use std::marker::Model;
 
 /// The most bytes of a block.
 const MOST: u64 = 32768;
-
-/// The most slots of a page.
-const SLOTS: usize = 512;
-
-/// The words that hold the marks of a page's slots.
-const SLOT_WORDS: usize = 8;
 
 /// The slab pages of a memory, and which of their slots are live.
 #[derive(Drop)]

@@ -13,18 +13,12 @@ ghost use Rattle.km_pages.specs.Laid.{AreLaid, BeginAt};
 ghost use Rattle.km_slab.specs.Blocks.{AreBlocks, Fits, Gains, HasFree, IsFreeAt, IsFull, IsSize, IsSlot, Loses, Sheets, Takes, TakesSlot, start_of};
 ghost use Rattle.km_slab.specs.Tables.{IsKept, sheets};
 
-use crate::table::{Table, drop_page, give_slot, lowest_slot, open_page, take_page, take_slot};
+use crate::table::{
+    SLOT_WORDS, Table, drop_page, give_slot, lowest_slot, open_page, take_page, take_slot,
+};
+use km_base::sizes::{BASE, PAGE};
 use km_base::{Addr, Span};
 use km_pages::{NoRoom, Pages, Use};
-
-/// The address of the first page.
-const BASE: u64 = 0xffff_8880_0000_0000;
-
-/// The bytes of a page.
-const PAGE: u64 = 4096;
-
-/// The words that hold the marks of a page's slots.
-const SLOT_WORDS: usize = 8;
 
 /// Where a slot lies.
 fn span_of(page: usize, class: u32, slot: usize) -> Span

@@ -7,19 +7,17 @@ ghost use Rattle.km_slab.specs.Tables.{IsKept, sheets};
 ghost use Rattle.km_model.specs.Placement.{page_start};
 
 use km_base::Addr;
+use km_base::sizes::{self, BASE, PAGE_WORDS};
 use km_marks::Marks;
 
-/// The address of the first page.
-const BASE: u64 = 0xffff_8880_0000_0000;
-
 /// The bytes of a page.
-const PAGE: u32 = 4096;
+pub const PAGE: u32 = sizes::PAGE as u32;
 
-/// The most slots of a page.
-const SLOTS: usize = 512;
+/// The most slots of a page: each has a word at least.
+pub const SLOTS: usize = PAGE_WORDS as usize;
 
 /// The words that hold the marks of a page's slots.
-const SLOT_WORDS: usize = 8;
+pub const SLOT_WORDS: usize = SLOTS / 64;
 
 /// The slab pages of a memory, and which of their slots are live.
 #[derive(Drop)]

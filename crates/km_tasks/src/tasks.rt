@@ -15,6 +15,7 @@ ghost use Rattle.km_tasks.specs.Roll.{Fits, answer_of, refused_first, stack_page
 ghost use Rattle.km_tasks.specs.Lives.{AreNamed, AreNumbered, task};
 
 use crate::errors::{NoTask, TaskFault};
+use km_base::sizes::PAGE;
 use km_base::{Addr, Name, NoMemory, Reg, Span};
 use km_pages::{Pages, Use};
 use std::alloc::Global;
@@ -22,9 +23,6 @@ use std::marker::Model;
 
 /// The most tasks that live at once.
 const MOST: usize = 64;
-
-/// The bytes of a stack.
-const STACK: u64 = 4096;
 
 /// A live task.
 #[derive(Clone, Copy)]
@@ -276,7 +274,7 @@ impl Tasks {
                 live.number,
                 Span {
                     start: live.stack,
-                    size: STACK,
+                    size: PAGE,
                 },
             )),
             None => None,

@@ -1,7 +1,6 @@
 //! Lines and words, and what they are read as.
 
-use km_base::{FileCmd, Name, Reg};
-use km_model::{Base, Command, Line, NotACommand, Operand, RegName};
+use km_base::{Base, Command, FileCmd, Line, Name, NotACommand, Operand, Reg, RegName};
 use km_script::{file_command, read_line};
 use std::test::Fail;
 

@@ -115,6 +115,15 @@ impl<M: ObjectMap> Track<M> {
         Some(RecId { slot, generation })
     }
 
+    /// The block that begins at an address.
+    pub fn starting_at(&self, start: Addr) -> Option<RecId>
+        ensures { result ≡ option_map id_of (live_where (begins start.0) self.now) }
+    {
+        let slot = self.map.find_start(start)?;
+        let generation = self.slots[slot as usize].generation;
+        Some(RecId { slot, generation })
+    }
+
     /// The record of a live block.
     pub fn record(&self, id: RecId) -> Option<&Record>
         ensures block { option_map (λ r. record { slot = id.slot; tracked = tracked_of id.generation r.now }) result ≡ live_with id self.now }

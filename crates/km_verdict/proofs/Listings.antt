@@ -1,11 +1,11 @@
-use Rattle.std.proofs.Common.{◌≡◌, ℕ, ◌<◌, Bool, true, false, ◌||◌, List, [], ◌∷◌, ◌++◌, length, cond, Option, Some, None, option_map, if◌then◌else◌, refl, sym, ap, ◌∙◌, subst, arith}
+use Rattle.std.proofs.Common.{◌≡◌, ℕ, ◌+◌, ◌<◌, Bool, true, false, ◌||◌, List, [], ◌∷◌, ◌++◌, length, cond, Option, Some, None, option_map, if◌then◌else◌, refl, sym, ap, ◌∙◌, subst, arith}
 use Rattle.std.specs.Prelude.{find}
 use Rattle.std.specs.List.{list_any}
 use Rattle.std.proofs.lemmas.List.{append_assoc}
 use Rattle.km_record.specs.declared.kinds.RecId.{RecId}
 use Rattle.km_state.specs.State.{is_listed_now}
 use Rattle.km_track.specs.Tracker.{AreRising, Live, first_live, id_of, is_id, live_behind, live_from}
-use Rattle.km_track.proofs.Lives.{finds_it, behind_it, from_rest, has_its}
+use Rattle.km_track.proofs.Lives.{finds_it, behind_it, from_rest, has_its, not_before}
 use Rattle.km_verdict.specs.Listing.{behind, listed_in}
 
 -- a walk that looks for a listed block: those that it passed by, and the rest
@@ -105,9 +105,7 @@ pub first_is : (live : List Live) (l : Live) → first_live live ≡ Some l → 
 first_is [] l e t = absurd (let z : ⊥ = cc in z)
 first_is (x ∷ live) l e t = let same : x ≡ l = cc in subst (λ (y : Live). Some (id_of l) ≡ listed_in (y ∷ live)) (sym same) (sym (listed_cons l live true t))
 
-pub first_is_not : (live : List Live) (l : Live) → first_live live ≡ Some l → is_listed_now l.tracked ≡ false → listed_in (behind (id_of l) live) ≡ listed_in live
-first_is_not [] l e f = absurd (let z : ⊥ = cc in z)
-first_is_not (x ∷ live) l e f =
-    let same : x ≡ l = cc in
-    subst (λ (y : Live). listed_in (behind (id_of l) (y ∷ live)) ≡ listed_in (y ∷ live)) (sym same)
-    (subst (λ b. listed_in (if b then live else behind (id_of l) live) ≡ listed_in (l ∷ live)) (sym (has_its l)) (sym (listed_cons l live false f)))
+-- what is registered behind a block among the live ones
+pub behind_its : (low high : ℕ) (front more : List Live) (l : Live) → AreRising low (front ++ l ∷ more) high → behind (id_of l) (front ++ l ∷ more) ≡ more
+behind_its low high [] more l r = rw (has_its l) refl
+behind_its low high (x ∷ front) more l r = rw (not_before low high x l front more r) (behind_its (x.tracked.block.id + 1) high front more l r.1)

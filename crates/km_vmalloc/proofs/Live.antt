@@ -9,6 +9,7 @@ use Rattle.km_base.specs.declared.acts.Answer.TheVariants.{Refused}
 use Rattle.km_base.specs.declared.acts.Refusal.{Refusal}
 use Rattle.km_base.specs.declared.acts.Refusal.TheVariants as refusal
 use Rattle.km_model.specs.Answers.{unless, at_place, is_bad_size}
+use Rattle.km_model.proofs.Cases.{some_same}
 use Rattle.km_pages.specs.declared.runs.Run.{Run}
 use Rattle.km_slab.specs.Blocks.{Sheets}
 use Rattle.km_pages.proofs.FirstFit.{least_is}
@@ -25,9 +26,7 @@ pub clash : (o : Option VmArea) (v : VmArea) → o ≡ None → o ≡ Some v →
 clash o v a b = cc
 
 pub one_area : (o : Option VmArea) (v w : VmArea) → o ≡ Some v → o ≡ Some w → v ≡ w
-one_area o v w a b = some_same v w (sym a ∙ b) where
-  some_same : (x y : VmArea) → Some x ≡ Some y → x ≡ y
-  some_same x y e = cc
+one_area o v w a b = some_same v w (sym a ∙ b)
 
 -- what the tests tell
 pub area_use : (u : Use) (s : ℕ) → (elim u as (λ _. Bool) [ AreaRun t ↦ t == s | _ ↦ false ]) ≡ true → u ≡ AreaRun s

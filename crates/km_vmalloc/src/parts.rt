@@ -13,12 +13,10 @@ ghost use Rattle.km_pages.specs.Laid.{AreLaid, Fills};
 ghost use Rattle.km_slab.specs.Blocks.{AreBlocks, Fits as SlabFits, Gains, IsSlot, Loses, Sheets, Takes};
 ghost use Rattle.km_vmalloc.specs.Areas.{IsApart, IsPlaced, as_area};
 
+use km_base::sizes::PAGE;
 use km_base::{Addr, Span};
 use km_pages::{NoRoom, Pages, Use};
 use km_slab::Slab;
-
-/// The bytes of a page.
-const PAGE: u64 = 4096;
 
 /// The bytes of a head.
 const HEAD: u64 = 64;

@@ -16,14 +16,12 @@ ghost use Rattle.km_vmalloc.specs.Areas.{AreAreas, Fits, IsApart, answer_of, are
 use crate::areas::{VmArea, area_beginning, free_slot, has_head};
 use crate::errors::VmFault;
 use crate::parts::{give_parts, take_parts};
+use km_base::sizes::VMAP_SLOTS;
 use km_base::{Addr, NoMemory};
 use km_pages::{NotAllocated, Pages};
 use km_slab::Slab;
 use std::alloc::Global;
 use std::marker::Model;
-
-/// The vmap slots, and so the most areas that live at once.
-const SLOTS: usize = 512;
 
 /// The most bytes that can be asked for.
 const MOST: u64 = 1_048_576;
@@ -53,7 +51,7 @@ impl Vmalloc {
         ensures fits { IfOk result (λ m. (slab : Sheets) (pages : List (Option Run)) → ((p : ℕ) → run_from pages vmalloc_use p ≡ None) → Fits m slab pages) }
         ensures areas { IfOk result (λ m. (used : List Allocation) → All (λ (x : Allocation). is_part x ≡ false) used → AreAreas m used) }
     {
-        match vec![in alloc; None; SLOTS] {
+        match vec![in alloc; None; VMAP_SLOTS] {
             Ok(areas) => Ok(Vmalloc { areas }),
             Err(_) => Err(NoMemory),
         }

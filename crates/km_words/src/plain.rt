@@ -1,14 +1,12 @@
 //! A memory of this process's own.
 
-ghost use Rattle.std.specs.Prelude.{◌≡◌, ◌≤◌, IfOk, replicate, Some, None, []};
+ghost use Rattle.std.specs.Prelude.{◌≡◌, ◌≤◌, IfOk, length, replicate, Some, None, []};
 
 use crate::words::Words;
+use km_base::sizes::BASE;
 use km_base::{Addr, NoMemory};
 use std::alloc::Global;
 use std::marker::Model;
-
-/// The start of the memory.
-const BASE: u64 = 0xffff_8880_0000_0000;
 
 /// Words that nobody else loads or stores: they tell their values and keep no steps.
 #[derive(Debug, Drop)]
@@ -36,6 +34,14 @@ impl Plain {
             Ok(words) => Ok(Plain { words }),
             Err(_) => Err(NoMemory),
         }
+    }
+
+    /// The words, in order of their addresses.
+    pub fn values(&self) -> &[u64]
+        ensures values { result.now ≡ self.now }
+        ensures few { length result.now ≤ 4194304 }
+    {
+        self.words.as_slice()
     }
 }
 

@@ -1,7 +1,7 @@
 use Rattle.std.proofs.Common.{◌≡◌, refl, ap}
 use Rattle.km_forms.proofs.Checked.{check_never_bad, checks_exactly, checks_over}
 use Rattle.km_forms.specs.declared.words.Form.TheVariants.{Bench}
-use Rattle.km_model.specs.declared.status.Status.TheVariants as status
+use Rattle.km_base.specs.declared.status.Status.TheVariants as status
 use Rattle.km_engine.proofs.Histories.{headline}
 use Rattle.km_engine.proofs.Runs.{ends_over, exact_over, never_bad}
 use Rattle.km_engine.proofs.Summaries.{bench_never_bad, bench_of}

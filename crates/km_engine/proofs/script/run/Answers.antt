@@ -1,6 +1,6 @@
 use Rattle.std.proofs.Common.{Some, sym, subst}
-use Rattle.km_model.specs.declared.lines.Line.{Line}
-use Rattle.km_model.specs.declared.status.Status.TheVariants as status
+use Rattle.km_base.specs.declared.lines.Line.{Line}
+use Rattle.km_base.specs.declared.status.Status.TheVariants as status
 use Rattle.km_engine.specs.Session.{HasLed}
 use Rattle.km_engine.specs.Steps.{RanOn, EndsRun}
 use Rattle.km_engine.proofs.Lines.{memory_runs, later_runs, later_ends}
@@ -15,7 +15,7 @@ pub returns-in-Ok-clause-runs : goal.returns-in-Ok-clause-runs
 returns-in-Ok-clause-runs g c =
     let ran = c.in-Ok.ensures in
     λ m led. subst (λ (l : Line). RanOn (Some c.line.new.self) m l (g.K.Sink.state c.args.sink.now) (g.K.Sink.state c.line.new.sink)) (sym c.in-Command.is)
-    (later_runs c.in-Some.machine c.line.new.self m c.in-Command.command _ _ (subst (λ o. HasLed o m) c.in-Some.is led) ran.spent.words ran.runs)
+    (later_runs c.in-Some.machine c.line.new.self m c.in-Command.command _ _ (subst (λ o. HasLed o m) c.in-Some.is led) ran.runs)
 
 pub returns-in-Err-clause-runs : goal.returns-in-Err-clause-runs
 returns-in-Err-clause-runs g c =

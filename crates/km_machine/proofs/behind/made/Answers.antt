@@ -6,15 +6,15 @@ use Rattle.km_machine.proofs.Lines.{any_word, is_place, one_more, simple_unread,
 use Rattle.km_machine.proofs.behind.made.Goals as goal
 
 pub returns-in-Err-clause-so_far : goal.returns-in-Err-clause-so_far
-returns-in-Err-clause-so_far g c = λ size word first h k s.
+returns-in-Err-clause-so_far g c = λ word first run k s.
     let e = c.event-answer.ensures in
-    one_more size word first h _ _ _ _ k _ _ _ _ c.args.act c.event-answer.result s (e.happens h s.stands) e.spent.words (e.answer h s.stands)
-    (stops_early k _ _ _ (subst (λ w. WritesAll k (g.K.Sink.state c.args.sink.now) (events_text size word s.count h) w) c.in-Err.is s.wrote))
+    one_more word first run _ _ _ _ k _ _ _ _ c.args.act c.event-answer.result s (e.happens run s.stands) (e.answer run s.stands)
+    (stops_early k _ _ _ (subst (λ w. WritesAll k (g.K.Sink.state c.args.sink.now) (events_text first.memory word s.count run.history) w) c.in-Err.is s.wrote))
 
 pub returns-in-Ok-clause-so_far : goal.returns-in-Ok-clause-so_far
-returns-in-Ok-clause-so_far g c = λ size word first h k s.
+returns-in-Ok-clause-so_far g c = λ word first run k s.
     let e = c.event-answer.ensures in
-    let no_place = ap is_place (e.answer h s.stands) ∙ simply_answered c.args.machine.now.core.parts.words h c.args.act c.requires.simple in
-    one_more size word first h _ _ _ _ k _ _ _ _ c.args.act c.event-answer.result s (e.happens h s.stands) e.spent.words (e.answer h s.stands)
-    (writes_behind k (g.K.Sink.state c.args.sink.now) (g.K.Sink.state c.answer.new.sink) _ _ _ (subst (λ w. WritesAll k (g.K.Sink.state c.args.sink.now) (events_text size word s.count h) w) c.in-Ok.is s.wrote)
-    (subst (λ t. WritesAll (g.K.Sink.state c.args.sink.now) (g.K.Sink.state c.answer.new.sink) t c.answer.result) (any_word size (codes "event") word h c.args.act c.event-answer.result no_place) (c.answer.ensures size h c.args.act (simple_unread c.args.act c.requires.simple))))
+    let no_place = ap is_place (e.answer run s.stands) ∙ simply_answered run c.args.act c.requires.simple in
+    one_more word first run _ _ _ _ k _ _ _ _ c.args.act c.event-answer.result s (e.happens run s.stands) (e.answer run s.stands)
+    (writes_behind k (g.K.Sink.state c.args.sink.now) (g.K.Sink.state c.answer.new.sink) _ _ _ (subst (λ w. WritesAll k (g.K.Sink.state c.args.sink.now) (events_text first.memory word s.count run.history) w) c.in-Ok.is s.wrote)
+    (subst (λ t. WritesAll (g.K.Sink.state c.args.sink.now) (g.K.Sink.state c.answer.new.sink) t c.answer.result) (any_word first.memory (codes "event") word run.history c.args.act c.event-answer.result no_place) (c.answer.ensures first.memory run.history c.args.act (simple_unread c.args.act c.requires.simple))))

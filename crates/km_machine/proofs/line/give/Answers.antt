@@ -9,14 +9,13 @@ use Rattle.km_machine.proofs.Lines.{begun}
 use Rattle.km_machine.proofs.line.give.Goals as goal
 
 pub returns-in-Some-clause-so_far : goal.returns-in-Some-clause-so_far
-returns-in-Some-clause-so_far g c = λ h f.
+returns-in-Some-clause-so_far g c = λ run f.
     let m = c.args.machine.now in
-    let n = m.core.parts.words in
     let a = c.args.start in
     let k = g.K.Sink.state c.args.sink.now in
-    let slot : Some c.in-Some.area.slot ≡ slot_of_area (world_after h).used a = c.in-Some.ensures.slot h f.state f.stands ∙ ap (λ used. slot_of_area used a) f.stands.history.allocations in
-    let first = subst (λ w. SoFar n [] h (happens n h (act.Store w 0)) c.made-written.new.machine.core c.made-written.new.machine.words k (g.K.Sink.state c.made-written.new.sink) c.made-written.result)
-    c.slot_word.ensures (c.made-written.ensures.so_far n [] h h k (begun [] m.core m.words h k f)) in
+    let slot : Some c.in-Some.area.slot ≡ slot_of_area (world_after run.history).used a = c.in-Some.ensures.slot run.history f.state f.stands ∙ ap (λ used. slot_of_area used a) f.stands.history.allocations in
+    let first = subst (λ w. SoFar [] run (happens run (act.Store w 0)) c.made-written.new.machine.core c.made-written.new.machine.words k (g.K.Sink.state c.made-written.new.sink) c.made-written.result)
+    c.slot_word.ensures (c.made-written.ensures.so_far [] run run k (begun [] m.core m.words run k f)) in
     subst
-    (λ o. SoFar n [] h (all_happen n h (elim o as (λ _. List Act) [ None ↦ act.VmGive a ∷ [] | Some s ↦ act.Store (slot_word s) 0 ∷ act.VmGive a ∷ [] ]))
-    c.made.new.machine.core c.made.new.machine.words k (g.K.Sink.state c.made.new.sink) c.made.result) slot (c.made.ensures.so_far n [] h _ k first)
+    (λ o. SoFar [] run (all_happen run (elim o as (λ _. List Act) [ None ↦ act.VmGive a ∷ [] | Some s ↦ act.Store (slot_word s) 0 ∷ act.VmGive a ∷ [] ]))
+    c.made.new.machine.core c.made.new.machine.words k (g.K.Sink.state c.made.new.sink) c.made.result) slot (c.made.ensures.so_far [] run _ k first)

@@ -1,19 +1,19 @@
 use Rattle.std.proofs.Common.{◌≡◌, codes, sym, subst}
 use Rattle.km_base.specs.declared.acts.Act.TheVariants as act
 use Rattle.km_edge.specs.Streams.{WritesAll}
-use Rattle.km_model.specs.declared.lines.Command.TheVariants as command
+use Rattle.km_base.specs.declared.lines.Command.TheVariants as command
 use Rattle.km_machine.specs.Machines.{RunsLine}
 use Rattle.km_machine.proofs.Lines.{lists, reads, read_text}
 use Rattle.km_machine.proofs.line.read.Goals as goal
 
 pub returns-in-Done-clause-runs : goal.returns-in-Done-clause-runs
-returns-in-Done-clause-runs g c = λ h f.
+returns-in-Done-clause-runs g c = λ run f.
     let m = c.args.machine.now in
     let k = g.K.Sink.state c.args.sink.now in
     let k' = g.K.Sink.state c.listing.new.sink in
     let e = c.event.ensures in
-    subst (λ x. RunsLine m.core x.core m.words x.words h command.Read k k' c.listing.result) (sym c.listing.ensures.same)
-    (lists m.core c.event.new.self.core m.words c.event.new.self.words h k k' c.listing.result f (e.happens h f) e.spent.words (c.in-Done.ensures.answer h f) (c.listing.ensures.listing _ (e.happens h f)))
+    subst (λ x. RunsLine x.core x.words run command.Read k k' c.listing.result) (sym c.listing.ensures.same)
+    (lists m.core c.event.new.self.core m.words c.event.new.self.words run k k' c.listing.result f (e.happens run f) (c.in-Done.ensures.answer run f) (c.listing.ensures.listing _ (e.happens run f)))
 
 pub returns-in_default : goal.returns-in_default
 returns-in_default g c =
@@ -22,7 +22,7 @@ returns-in_default g c =
     let k' = g.K.Sink.state c.answer.new.sink in
     let e = c.event.ensures in
     record {
-      runs = λ h f. reads m.core c.event.new.self.core m.words c.event.new.self.words h k k' c.answer.result c.event.result f (e.happens h f) e.spent.words (e.answer h f)
-          (subst (λ t. WritesAll k k' t c.answer.result) (read_text m.core.parts.words (codes "read") h c.event.result c.in_default.not-Done (e.answer h f)) (c.answer.ensures m.core.parts.words h act.Step (λ (x : act.Step ≡ act.Read). let z : ⊥ = cc in z)));
+      runs = λ run f. reads m.core c.event.new.self.core m.words c.event.new.self.words run k k' c.answer.result c.event.result f (e.happens run f) (e.answer run f)
+          (subst (λ t. WritesAll k k' t c.answer.result) (read_text run.memory (codes "read") run c.event.result c.in_default.not-Done (e.answer run f)) (c.answer.ensures run.memory run.history act.Step (λ (x : act.Step ≡ act.Read). let z : ⊥ = cc in z)));
       spent = e.spent;
     }

@@ -8,40 +8,38 @@ use Rattle.km_machine.proofs.Lines.{allocation_plain, begun, further_at, is_plac
 use Rattle.km_machine.proofs.line.requested.Goals as goal
 
 pub returns-in-At-clause-runs : goal.returns-in-At-clause-runs
-returns-in-At-clause-runs g c = λ h f first.
+returns-in-At-clause-runs g c = λ run f first.
     let m = c.args.machine.now in
-    let n = m.core.parts.words in
     let line = c.args.command.now in
     let act = c.args.act in
     let k = g.K.Sink.state c.args.sink.now in
     let k' = g.K.Sink.state c.answer-written.new.sink in
     let e = c.event-answer.ensures in
-    let text = subst (λ w. WritesAll k k' (answer_text n w h act c.event-answer.result) c.answer-written.result) c.keyword.ensures.word (c.answer-written.ensures n h act (request_unread act c.requires.request)) in
-    let one = one_more n (keyword line) h h m.core c.event-answer.new.self.core m.words c.event-answer.new.self.words k k k' (Ok tt) c.answer-written.result act c.event-answer.result
-    (begun (keyword line) m.core m.words h k f) (e.happens h f) e.spent.words (e.answer h f) text in
-    let newest = ap (λ x. record { act = act; answer = x } ∷ h) (sym (e.answer h f) ∙ c.in-At.is) in
-    plain_ran m.core c.acts.new.machine.core m.words c.acts.new.machine.words h line k (g.K.Sink.state c.acts.new.sink) c.acts.result act (allocation_plain line c.requires.allocation) first
-    (subst (λ l. SoFar n (keyword line) h (all_happen n (happens n h act) l) c.acts.new.machine.core c.acts.new.machine.words k (g.K.Sink.state c.acts.new.sink) c.acts.result)
-    (sym (further_at h (happens n h act) act c.in-At.start line newest))
-    (c.acts.ensures.so_far n (keyword line) h (happens n h act) k (record { request = act; before = h; newest = newest; first = first }) one))
+    let text = subst (λ w. WritesAll k k' (answer_text run.memory w run.history act c.event-answer.result) c.answer-written.result) c.keyword.ensures.word (c.answer-written.ensures run.memory run.history act (request_unread act c.requires.request)) in
+    let one = one_more (keyword line) run run m.core c.event-answer.new.self.core m.words c.event-answer.new.self.words k k k' (Ok tt) c.answer-written.result act c.event-answer.result
+    (begun (keyword line) m.core m.words run k f) (e.happens run f) (e.answer run f) text in
+    let newest = ap (λ x. record { act = act; answer = x } ∷ run.history) (sym (e.answer run f) ∙ c.in-At.is) in
+    plain_ran c.acts.new.machine.core c.acts.new.machine.words run line k (g.K.Sink.state c.acts.new.sink) c.acts.result act (allocation_plain line c.requires.allocation) first
+    (subst (λ l. SoFar (keyword line) run (all_happen (happens run act) l) c.acts.new.machine.core c.acts.new.machine.words k (g.K.Sink.state c.acts.new.sink) c.acts.result)
+    (sym (further_at run.history (happens run act).history act c.in-At.start line newest))
+    (c.acts.ensures.so_far (keyword line) run (happens run act) k (record { request = act; before = run.history; newest = newest; first = first }) one))
 
 pub returns-in_default : goal.returns-in_default
 returns-in_default g c =
     let m = c.args.machine.now in
-    let n = m.core.parts.words in
     let line = c.args.command.now in
     let act = c.args.act in
     let k = g.K.Sink.state c.args.sink.now in
     let k' = g.K.Sink.state c.answer-written.new.sink in
     let e = c.event-answer.ensures in
     record {
-      runs = λ h f first.
-          let text = subst (λ w. WritesAll k k' (answer_text n w h act c.event-answer.result) c.answer-written.result) c.keyword.ensures.word (c.answer-written.ensures n h act (request_unread act c.requires.request)) in
-          let one = one_more n (keyword line) h h m.core c.event-answer.new.self.core m.words c.event-answer.new.self.words k k k' (Ok tt) c.answer-written.result act c.event-answer.result
-          (begun (keyword line) m.core m.words h k f) (e.happens h f) e.spent.words (e.answer h f) text in
-          let none = sym (ap is_place (e.answer h f)) ∙ not_at c.event-answer.result c.in_default.not-At in
-          plain_ran m.core c.event-answer.new.self.core m.words c.event-answer.new.self.words h line k k' c.answer-written.result act (allocation_plain line c.requires.allocation) first
-          (subst (λ l. SoFar n (keyword line) h (all_happen n (happens n h act) l) c.event-answer.new.self.core c.event-answer.new.self.words k k' c.answer-written.result)
-          (sym (none_further h act (told_answer n h act) line none)) one);
+      runs = λ run f first.
+          let text = subst (λ w. WritesAll k k' (answer_text run.memory w run.history act c.event-answer.result) c.answer-written.result) c.keyword.ensures.word (c.answer-written.ensures run.memory run.history act (request_unread act c.requires.request)) in
+          let one = one_more (keyword line) run run m.core c.event-answer.new.self.core m.words c.event-answer.new.self.words k k k' (Ok tt) c.answer-written.result act c.event-answer.result
+          (begun (keyword line) m.core m.words run k f) (e.happens run f) (e.answer run f) text in
+          let none = sym (ap is_place (e.answer run f)) ∙ not_at c.event-answer.result c.in_default.not-At in
+          plain_ran c.event-answer.new.self.core c.event-answer.new.self.words run line k k' c.answer-written.result act (allocation_plain line c.requires.allocation) first
+          (subst (λ l. SoFar (keyword line) run (all_happen (happens run act) l) c.event-answer.new.self.core c.event-answer.new.self.words k k' c.answer-written.result)
+          (sym (none_further run.history act (told_answer run act) line none)) one);
       spent = spent_less m.core c.event-answer.new.self.core m.words c.event-answer.new.self.words 1 16384 (subst (λ t. Spent m.core c.event-answer.new.self.core m.words c.event-answer.new.self.words 1 t) (request_ticks act c.requires.request) e.spent) (omega arith);
     }

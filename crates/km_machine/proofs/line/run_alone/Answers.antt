@@ -6,19 +6,18 @@ use Rattle.km_machine.proofs.Lines.{alone_plain, begun, none_further, plain_ran,
 use Rattle.km_machine.proofs.line.run_alone.Goals as goal
 
 pub returns-in-Ok-clause-runs : goal.returns-in-Ok-clause-runs
-returns-in-Ok-clause-runs g c = λ h f.
+returns-in-Ok-clause-runs g c = λ run f.
     let m = c.args.machine.now in
-    let n = m.core.parts.words in
     let line = c.args.command.now in
     let k = g.K.Sink.state c.args.sink.now in
     let k' = g.K.Sink.state c.made.new.sink in
     let act = c.in-Ok.act in
-    plain_ran m.core c.made.new.machine.core m.words c.made.new.machine.words h line k k' c.made.result act (alone_plain line c.requires.alone) (c.in-Ok.ensures.acts h f)
-    (subst (λ l. SoFar n (keyword line) h (all_happen n (happens n h act) l) c.made.new.machine.core c.made.new.machine.words k k' c.made.result)
-    (sym (none_further h act (told_answer n h act) line (simply_answered n h act c.in-Ok.ensures.simple)))
-    (c.made.ensures.so_far n (keyword line) h h k (begun (keyword line) m.core m.words h k f)))
+    plain_ran c.made.new.machine.core c.made.new.machine.words run line k k' c.made.result act (alone_plain line c.requires.alone) (c.in-Ok.ensures.acts run f)
+    (subst (λ l. SoFar (keyword line) run (all_happen (happens run act) l) c.made.new.machine.core c.made.new.machine.words k k' c.made.result)
+    (sym (none_further run.history act (told_answer run act) line (simply_answered run act c.in-Ok.ensures.simple)))
+    (c.made.ensures.so_far (keyword line) run run k (begun (keyword line) m.core m.words run k f)))
 
 pub returns-in-Err-clause-runs : goal.returns-in-Err-clause-runs
-returns-in-Err-clause-runs g c = λ h f.
-    refused_line c.args.machine.now.core c.args.machine.now.words h c.args.command.now (g.K.Sink.state c.args.sink.now) (g.K.Sink.state c.refuse.new.sink) c.refuse.result c.in-Err.refusal
-    (alone_plain c.args.command.now c.requires.alone) f (c.in-Err.ensures.acts h f) c.refuse.ensures
+returns-in-Err-clause-runs g c = λ run f.
+    refused_line c.args.machine.now.core c.args.machine.now.words run c.args.command.now (g.K.Sink.state c.args.sink.now) (g.K.Sink.state c.refuse.new.sink) c.refuse.result c.in-Err.refusal
+    (alone_plain c.args.command.now c.requires.alone) f (c.in-Err.ensures.acts run f) c.refuse.ensures

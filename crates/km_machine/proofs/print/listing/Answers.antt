@@ -10,14 +10,14 @@ pub loop-next-init : goal.loop-next-init
 loop-next-init g c = record { same = refl; listing = listing_begins _ _ _ _ _ (c.first_listed-next.ensures ∙ ap (λ (t : Tracker). listed_in t.live) c.track-track.ensures) }
 
 pub returns-in_err-entry-clause-listing : goal.returns-in_err-entry-clause-listing
-returns-in_err-entry-clause-listing g c = λ h stands.
+returns-in_err-entry-clause-listing g c = λ run stands.
     let a = g.K.Sink.state c.args.sink.now in
     let b = g.K.Sink.state c.entry.new.sink in
     let core = c.args.machine.now.core in
     let old = c.loop-next.invariant in
-    subst (λ xs. WritesAll a b xs c.from_residual.result) (listing_is core c.args.machine.now.words h stands)
+    subst (λ xs. WritesAll a b xs c.from_residual.result) (listing_is core c.args.machine.now.words run stands)
     (stopped a b _ _ c.from_residual.ensures.0
-    (listing_stops core.parts.objects.tracker core.parts.settings.now _ c.loop-next.words _ _ _ _ c.in-Some.id old.listing c.entry.ensures.rising c.in-Some.is old.same c.in_err-entry.ensures.entry (all_lie core c.args.machine.now.words h stands)))
+    (listing_stops core.parts.objects.tracker core.parts.settings.now _ c.loop-next.words _ _ _ _ c.in-Some.id old.listing c.entry.ensures.rising c.in-Some.is old.same c.in_err-entry.ensures.entry (all_lie core c.args.machine.now.words run stands)))
 
 pub next_listed-next-requires : goal.next_listed-next-requires
 next_listed-next-requires g c =
@@ -41,9 +41,9 @@ loop-next-preserved g c =
     }
 
 pub returns-clause-listing : goal.returns-clause-listing
-returns-clause-listing g c = λ h stands.
+returns-clause-listing g c = λ run stands.
     let a = g.K.Sink.state c.args.sink.now in
     let b = g.K.Sink.state c.loop-next.sink in
     let core = c.args.machine.now.core in
-    subst (λ xs. Wrote a b xs) (listing_is core c.args.machine.now.words h stands)
-    (listing_ends core.parts.objects.tracker _ _ _ _ _ c.loop-next.invariant.listing c.in_default.is (all_lie core c.args.machine.now.words h stands))
+    subst (λ xs. Wrote a b xs) (listing_is core c.args.machine.now.words run stands)
+    (listing_ends core.parts.objects.tracker _ _ _ _ _ c.loop-next.invariant.listing c.in_default.is (all_lie core c.args.machine.now.words run stands))

@@ -1,5 +1,5 @@
 use Rattle.std.proofs.Common.{◌-◌, ◌*◌}
-use Rattle.km_model.specs.History.{History}
+use Rattle.km_model.specs.Follows.{Run}
 use Rattle.km_machine.specs.Machines.{For, Spent}
 use Rattle.km_machine.proofs.Ticking.{Pacing}
 use Rattle.km_machine.proofs.scans.automatic_scans.Given as goal
@@ -7,7 +7,7 @@ use Rattle.km_machine.proofs.scans.automatic_scans.Given as goal
 -- so many automatic scans were made, and what they print was written, or written up to a fault
 abbrev pub invariant-loop : goal.invariant-loop
 invariant-loop g l = record {
-  pacing : (h : History) → For l.initial.machine.core l.initial.machine.words h
-      → Pacing l.machine.core l.machine.words l.initial.machine.core.parts.words l.target h l.counter (g.K.Sink.state l.initial.sink) (g.K.Sink.state l.sink) l.written;
+  pacing : (run : Run) → For l.initial.machine.core l.initial.machine.words run
+      → Pacing l.machine.core l.machine.words l.target run l.counter (g.K.Sink.state l.initial.sink) (g.K.Sink.state l.sink) l.written;
   spent : Spent l.initial.machine.core l.machine.core l.initial.machine.words l.machine.words (33554434 * l.counter) (l.target - l.initial.machine.core.parts.settings.now);
 }

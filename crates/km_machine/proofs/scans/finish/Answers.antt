@@ -5,13 +5,13 @@ use Rattle.km_machine.proofs.Stepping.{finished}
 use Rattle.km_machine.proofs.scans.finish.Goals as goal
 
 pub returns-clause-runs : goal.returns-clause-runs
-returns-clause-runs g c = λ h stands.
-    let s = c.step_on-last.ensures.stepped h stands in
+returns-clause-runs g c = λ run stands.
+    let s = c.step_on-last.ensures.stepped run stands in
     let k = g.K.Sink.state c.args.sink.now in
     let k' = g.K.Sink.state c.put.new.sink in
     record {
       behind = s.behind;
-      makes = finished _ _ _ h 33554431 _ s stands.size stands.stands.follows (lit≤ tt);
+      makes = finished _ _ _ _ run 33554431 _ stands s (lit≤ tt);
       stands = s.stands;
-      wrote = subst (λ t. WritesAll k k' t c.put.result) (sym (goes_text _ h s.behind _ s.goes)) c.put.ensures;
+      wrote = subst (λ t. WritesAll k k' t c.put.result) (sym (goes_text run.memory run.history s.behind.history _ s.goes)) c.put.ensures;
     }

@@ -1,4 +1,4 @@
-use Rattle.km_model.specs.History.{History}
+use Rattle.km_model.specs.Follows.{Run}
 use Rattle.km_machine.specs.Machines.{For, Spent}
 use Rattle.km_machine.proofs.Stepping.{Stepping}
 use Rattle.km_machine.proofs.scans.step_on.Given as goal
@@ -6,6 +6,6 @@ use Rattle.km_machine.proofs.scans.step_on.Given as goal
 -- so many steps were made, and each loaded
 abbrev pub invariant-loop : goal.invariant-loop
 invariant-loop l = record {
-  stepping : (h : History) → For l.initial.machine.core l.initial.machine.words h → Stepping l.machine.core l.machine.words l.initial.machine.core.parts.words h l.most l.counter;
+  stepping : (run : Run) → For l.initial.machine.core l.initial.machine.words run → Stepping l.machine.core l.machine.words run l.most l.counter;
   spent : Spent l.initial.machine.core l.machine.core l.initial.machine.words l.machine.words l.counter 0;
 }

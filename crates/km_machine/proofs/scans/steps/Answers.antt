@@ -4,13 +4,13 @@ use Rattle.km_machine.proofs.Going.{goes_text}
 use Rattle.km_machine.proofs.scans.steps.Goals as goal
 
 pub returns-clause-runs : goal.returns-clause-runs
-returns-clause-runs g c = λ h stands.
-    let s = c.step_on-last.ensures.stepped h stands in
+returns-clause-runs g c = λ run stands.
+    let s = c.step_on-last.ensures.stepped run stands in
     let k = g.K.Sink.state c.args.sink.now in
     let k' = g.K.Sink.state c.put.new.sink in
     record {
       behind = s.behind;
       makes = s.makes;
       stands = s.stands;
-      wrote = subst (λ t. WritesAll k k' t c.put.result) (sym (goes_text _ h s.behind _ s.goes)) c.put.ensures;
+      wrote = subst (λ t. WritesAll k k' t c.put.result) (sym (goes_text run.memory run.history s.behind.history _ s.goes)) c.put.ensures;
     }

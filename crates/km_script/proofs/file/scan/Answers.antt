@@ -1,7 +1,7 @@
 use Rattle.std.proofs.Common.{◌++◌, codes, option_map, ap, sym, ◌∙◌}
 use Rattle.km_model.specs.Grammar.{file_command}
-use Rattle.km_script.specs.Words.{bytes_of}
-use Rattle.km_script.proofs.Prefix.{from_prefix}
+use Rattle.km_base.specs.Prefix.{bytes_of}
+use Rattle.km_base.proofs.Prefix.{from_prefix}
 use Rattle.km_script.proofs.file.scan.Goals as goal
 
 pub returns : goal.returns

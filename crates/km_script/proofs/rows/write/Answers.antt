@@ -1,8 +1,8 @@
 use Rattle.std.proofs.Common.{◌≡◌, ℕ, List, [], ◌∷◌, drop, Ok, ap, sym, ◌∙◌}
 use Rattle.km_model.specs.Pieces.{Piece}
 use Rattle.km_model.specs.Grammar.{one_word, any_word, file_command}
-use Rattle.km_model.specs.declared.lines.Command.{Command}
-use Rattle.km_model.specs.declared.lines.Command.TheVariants.{Write}
+use Rattle.km_base.specs.declared.lines.Command.{Command}
+use Rattle.km_base.specs.declared.lines.Command.TheVariants.{Write}
 use Rattle.km_script.specs.Left.{map_ok, if_none_left, first_said}
 use Rattle.km_script.specs.Words.{bytes_of_word}
 use Rattle.km_script.proofs.rows.write.Goals as goal

@@ -1,6 +1,6 @@
 use Rattle.std.proofs.Common.{ℕ, ◌+◌, arith, Result, Ok, Err, is_none, ◌≡◌, ap, sym, subst, ◌∙◌}
-use Rattle.km_model.specs.declared.lines.Line.{Line}
-use Rattle.km_model.specs.declared.lines.NotACommand.{NotACommand as Refused}
+use Rattle.km_base.specs.declared.lines.Line.{Line}
+use Rattle.km_base.specs.declared.lines.NotACommand.{NotACommand as Refused}
 use Rattle.km_model.specs.Grammar.{line_of}
 use Rattle.km_model.specs.Output.{is_fresh}
 use Rattle.km_engine.specs.Session.{HasLed, HasRoomToRun, SpendsOn}

@@ -1,7 +1,7 @@
 //! How a run ends.
 
 ghost use Rattle.std.specs.Prelude.{◌≡◌};
-ghost use Rattle.km_model.specs.Codes.{code_of};
+ghost use Rattle.km_base.specs.Codes.{code_of};
 
 /// How a run ends.
 #[derive(Clone, Copy, Debug, PartialEq)]

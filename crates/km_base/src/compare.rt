@@ -1,8 +1,7 @@
 //! Comparisons of a word with bytes that are known.
 
 ghost use Rattle.std.specs.Prelude.{◌≡◌, bytes_eq, option_map};
-ghost use Rattle.km_model.specs.Pieces.{behind_prefix};
-ghost use Rattle.km_script.specs.Words.{bytes_of};
+ghost use Rattle.km_base.specs.Prefix.{behind_prefix, bytes_of};
 
 /// What is left of a word behind these bytes, if it begins with them. Each byte is looked at once.
 #[inline(always)]

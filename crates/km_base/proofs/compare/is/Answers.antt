@@ -1,8 +1,8 @@
 use Rattle.std.proofs.Common.{◌≡◌, List, ℕ, Option, Some, None, Bor, option_map, refl, ap, ◌∙◌}
 use Rattle.std.specs.Option.{is_some}
-use Rattle.km_script.specs.Words.{bytes_of}
-use Rattle.km_script.proofs.Prefix.{whole}
-use Rattle.km_script.proofs.compare.is.Goals as goal
+use Rattle.km_base.specs.Prefix.{bytes_of}
+use Rattle.km_base.proofs.Prefix.{whole}
+use Rattle.km_base.proofs.compare.is.Goals as goal
 
 some_bytes : (o : Option (Bor (List ℕ))) → is_some o ≡ is_some (option_map bytes_of o)
 some_bytes None = refl

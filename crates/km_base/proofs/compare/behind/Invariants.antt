@@ -1,6 +1,6 @@
 use Rattle.std.proofs.Common.{◌≡◌, drop}
-use Rattle.km_model.specs.Pieces.{behind_prefix}
-use Rattle.km_script.proofs.compare.behind.Given as goal
+use Rattle.km_base.specs.Prefix.{behind_prefix}
+use Rattle.km_base.proofs.compare.behind.Given as goal
 
 -- the bytes so far are the same
 abbrev pub invariant-loop-i : goal.invariant-loop-i
