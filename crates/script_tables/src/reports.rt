@@ -1,7 +1,6 @@
-//! The notation of the tables: lines parted by `|`.
+//! The text of a report that a table writes.
 //!
-//! `B+2040` is the address of that byte of the memory, the number being hexadecimal. `40 * task t#` is forty lines,
-//! with the line's number from 0 in place of `#`. In a report these stand for their lines:
+//! Its lines are separated by `|`, and `7 * refused: no room` is seven lines. These stand for their lines:
 //!
 //! - `NEW(n)`, the number of new blocks,
 //! - `ENTRY(start, size, age)` or `ENTRY(start, size, age, born)`, the head of a listed block,
@@ -9,56 +8,9 @@
 //! - `LEAK(..)`, as `ENTRY`, with the rows of a block of zeros,
 //! - `DUMP(start, size, born, min, count, flags, sum)`, what `dump` shows.
 
-use std::alloc::Global;
-use std::test::Fail;
-
-/// A text with its addresses written out.
-fn with_addresses(alloc: Global, text: &str) -> Result<String, Fail> {
-    let mut out = String::new(alloc);
-    let mut pieces = text.split("B+");
-    out.push_str(pieces.next().unwrap_or(""))?;
-    for piece in pieces {
-        let rest = piece.trim_start_matches(|c: char| c.is_ascii_hexdigit());
-        let digits = piece.strip_suffix(rest).unwrap_or("");
-        write!(out, "0xffff8880{digits:0>8}{rest}")?;
-    }
-    Ok(out)
-}
-
-/// A line with a number in place of each `#`.
-fn put_numbered(line: &str, number: u32, script: &mut String) -> Result<(), Fail> {
-    let mut pieces = line.split('#');
-    script.push_str(pieces.next().unwrap_or(""))?;
-    for piece in pieces {
-        write!(script, "{number}{piece}")?;
-    }
-    script.push('\n')?;
-    Ok(())
-}
-
-/// The lines of a text, each repeated as often as it says.
-fn put_lines(alloc: Global, text: &str, lines: &mut String) -> Result<(), Fail> {
-    let text = with_addresses(alloc, text)?;
-    for line in text.as_str().split('|') {
-        let line = line.trim();
-        match line.split_once(" * ") {
-            Some((times, line)) => {
-                for number in 0..times.parse::<u32>()? {
-                    put_numbered(line, number, lines)?;
-                }
-            }
-            None => writeln!(lines, "{line}")?,
-        }
-    }
-    Ok(())
-}
-
-/// The script of a text.
-pub fn script_of(alloc: Global, text: &str) -> Result<String, Fail> {
-    let mut script = String::new(alloc);
-    put_lines(alloc, text, &mut script)?;
-    Ok(script)
-}
+use crate::notation::{number_of, with_addresses};
+use crate::troubles::Trouble;
+use std::alloc::{AllocError, Global};
 
 /// What stands between a name and the parenthesis at the end.
 fn within<'a>(line: &'a str, name: &str) -> Option<&'a str> {
@@ -66,23 +18,22 @@ fn within<'a>(line: &'a str, name: &str) -> Option<&'a str> {
 }
 
 /// A row of zero bytes.
-fn put_zeros(count: u32, report: &mut String) -> Result<(), Fail> {
+fn put_zeros(count: usize, report: &mut String) -> Result<(), AllocError> {
     report.push_str("   ")?;
     for _ in 0..count {
         report.push_str(" 00")?;
     }
-    report.push('\n')?;
-    Ok(())
+    report.push('\n')
 }
 
 /// The head of a listed block. Gives the number of bytes that follow.
-fn put_entry(parts: &str, report: &mut String) -> Result<u32, Fail> {
+fn put_entry(parts: &str, report: &mut String) -> Result<usize, Trouble> {
     let mut parts = parts.split(", ");
     let start = parts.next().unwrap_or("");
     let size = parts.next().unwrap_or("");
     let age = parts.next().unwrap_or("");
     let born = parts.next().unwrap_or("0");
-    let shown = size.parse::<u32>()?.min(32);
+    let shown = number_of(size)?.min(32);
     writeln!(report, "unreferenced object {start} (size {size}):")?;
     writeln!(report, "  allocated at {born} ms, age {age} ms")?;
     writeln!(report, "  hex dump (first {shown} bytes):")?;
@@ -90,7 +41,7 @@ fn put_entry(parts: &str, report: &mut String) -> Result<u32, Fail> {
 }
 
 /// A listed block of zeros.
-fn put_leak(parts: &str, report: &mut String) -> Result<(), Fail> {
+fn put_leak(parts: &str, report: &mut String) -> Result<(), Trouble> {
     let shown = put_entry(parts, report)?;
     put_zeros(shown.min(16), report)?;
     if shown > 16 {
@@ -100,7 +51,7 @@ fn put_leak(parts: &str, report: &mut String) -> Result<(), Fail> {
 }
 
 /// What `dump` shows of a block.
-fn put_dump(parts: &str, report: &mut String) -> Result<(), Fail> {
+fn put_dump(parts: &str, report: &mut String) -> Result<(), AllocError> {
     let mut parts = parts.split(", ");
     let start = parts.next().unwrap_or("");
     let size = parts.next().unwrap_or("");
@@ -120,7 +71,7 @@ fn put_dump(parts: &str, report: &mut String) -> Result<(), Fail> {
 }
 
 /// The lines that a part of a report stands for.
-fn put_line(line: &str, report: &mut String) -> Result<(), Fail> {
+fn put_line(line: &str, report: &mut String) -> Result<(), Trouble> {
     if let Some(count) = within(line, "NEW(") {
         writeln!(
             report,
@@ -140,13 +91,23 @@ fn put_line(line: &str, report: &mut String) -> Result<(), Fail> {
     Ok(())
 }
 
+/// A part as often as is asked.
+fn put_copies(times: usize, line: &str, report: &mut String) -> Result<(), Trouble> {
+    for _ in 0..times {
+        put_line(line, report)?;
+    }
+    Ok(())
+}
+
 /// The report of a text.
-pub fn report_of(alloc: Global, text: &str) -> Result<String, Fail> {
-    let mut lines = String::new(alloc);
-    put_lines(alloc, text, &mut lines)?;
+pub fn report_of(alloc: Global, text: &str) -> Result<String, Trouble> {
+    let text = with_addresses(alloc, text)?;
     let mut report = String::new(alloc);
-    for line in lines.as_str().lines() {
-        put_line(line, &mut report)?;
+    for line in text.as_str().split('|') {
+        match line.trim().split_once(" * ") {
+            None => put_line(line.trim(), &mut report)?,
+            Some((times, line)) => put_copies(number_of(times)?, line, &mut report)?,
+        }
     }
     Ok(report)
 }
