@@ -3,11 +3,13 @@
 # prints for each the best time, the lines and the scanner's loads that this is a second, and the memory that was resident
 # at most.
 # The last column is the check sum of the report: a change of speed must not change it. Then the layers by themselves.
+# PROGRAM names another build of `kmemleak`; else that of this repository is built where it isn't there yet.
 set -eu
 cd "$(dirname "$0")/.."
 program=${PROGRAM:-crates/kmemleak/out/kmemleak}
 rounds=${1:-3}
 if [ ! -x "$program" ]; then
+  echo "bench: proving and building kmemleak first, which takes many minutes" >&2
   (cd crates/kmemleak && rt run </dev/null >/dev/null)
 fi
 script=$(mktemp)

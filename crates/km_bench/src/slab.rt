@@ -1,7 +1,5 @@
-//! Allocates blocks of 8 bytes, frees every second one, and allocates as many again, over and over until ten million
-//! calls are made, in memories of their own: 500,000 blocks, or as many as the first word says. It prints how many of
-//! these calls succeed. `bench/layers.sh` times it: the blocks that live at once are to make little difference.
-#![tactic(auto)]
+//! Blocks of 8 bytes are allocated, every second one is freed, and as many are allocated again, over and over until
+//! ten million calls are made, in memories of their own. How many blocks live at once is to make little difference.
 
 ghost use Rattle.km_slab.specs.Blocks.{Fits};
 
@@ -9,7 +7,6 @@ use km_base::{Addr, NoMemory};
 use km_pages::Pages;
 use km_slab::Slab;
 use std::alloc::Global;
-use std::{env, io};
 
 /// The address of the first page.
 const BASE: u64 = 0xffff_8880_0000_0000;
@@ -59,18 +56,12 @@ fn round(alloc: Global, blocks: u64) -> Result<u64, NoMemory> {
     Ok(first.saturating_add(freed).saturating_add(again))
 }
 
-fn main(rt: HostRuntime) -> io::Result<()> {
-    let mut blocks: u64 = 500_000;
-    for word in env::args(&rt)?.skip(1) {
-        blocks = word.as_str().parse().unwrap_or(500_000);
-    }
-    let blocks = blocks.max(2);
+/// Makes the calls with up to so many live blocks, and tells how many succeeded.
+pub fn calls(alloc: Global, blocks: u32) -> Result<u64, NoMemory> {
+    let blocks = u64::from(blocks.max(2));
     let mut calls: u64 = 0;
     for _ in 0..CALLS / blocks / 2 {
-        let Ok(made) = round(rt.alloc(), blocks) else {
-            return Ok(());
-        };
-        calls = calls.saturating_add(made);
+        calls = calls.saturating_add(round(alloc, blocks)?);
     }
-    println!(rt; "{calls} calls")
+    Ok(calls)
 }

@@ -1,7 +1,5 @@
-//! Registers blocks of 8 bytes in a tracker of the largest memory, over the balanced tree, and looks up the last byte
-//! of each: ten blocks, or as many as the first word says. It prints how many it found. `bench/layers.sh` measures the
-//! time and the memory that it takes.
-#![tactic(auto)]
+//! Blocks of 8 bytes are registered in a tracker of the largest memory, over the balanced tree, and the last byte of
+//! each is looked up.
 
 ghost use Rattle.std.specs.Prelude.{◌≡◌, ◌+◌, ◌≤◌, ◌<◌, ◌^◌};
 
@@ -9,7 +7,6 @@ use km_base::{Addr, NoMemory, Span};
 use km_track::Track;
 use km_tree::TreeMap;
 use std::alloc::Global;
-use std::{env, io};
 
 /// The address of the first word.
 const BASE: u64 = 0xffff_8880_0000_0000;
@@ -46,23 +43,11 @@ fn count_found(track: &Track<TreeMap>, count: u32) -> u32
     found
 }
 
-/// Registers so many blocks and tells how many of them are found.
-fn found(alloc: Global, count: u32) -> Result<u32, NoMemory>
-    requires { count ≤ 4194304 }
-{
+/// Registers so many blocks, or as many as there is room for, and tells how many of them are found.
+pub fn found(alloc: Global, count: u32) -> Result<u64, NoMemory> {
+    let count = count.min(WORDS);
     let map = TreeMap::new(alloc, WORDS)?;
     let mut track = Track::new(alloc, WORDS, map)?;
     fill(&mut track, count);
-    Ok(count_found(&track, count))
-}
-
-fn main(rt: HostRuntime) -> io::Result<()> {
-    let mut count: u32 = 10;
-    for word in env::args(&rt)?.skip(1) {
-        count = word.as_str().parse().unwrap_or(10);
-    }
-    match found(rt.alloc(), count.min(WORDS)) {
-        Ok(found) => println!(rt; "{found} blocks"),
-        Err(NoMemory) => println!(rt; "no memory"),
-    }
+    Ok(u64::from(count_found(&track, count)))
 }

@@ -1,14 +1,11 @@
-//! Scans the largest memory twice: blocks of zeros, a chain of small blocks, and large blocks that words of a section
-//! hold. The first word says which of them, `zeros`, `chain` or `large`; without it they are all there. It prints
-//! how many words the scans loaded. `bench/layers.sh` times it.
-#![tactic(auto)]
+//! Two scans of the largest memory: of blocks of zeros, of a chain of small blocks, and of large blocks that words of
+//! a section hold.
 
 use km_base::{Act, Answer, FileCmd, Name, NoMemory};
 use km_core::Core;
 use km_tree::TreeMap;
 use km_words::{Plain, Words};
 use std::alloc::Global;
-use std::{env, io};
 
 /// The words of the largest memory.
 const WORDS: u32 = 4_194_304;
@@ -24,7 +21,7 @@ const MOST_LOADS: u64 = 10_000_000;
 
 /// What is scanned.
 #[derive(Clone, Copy, PartialEq)]
-enum Kind {
+pub enum Kind {
     Zeros,
     Chain,
     Large,
@@ -112,7 +109,7 @@ impl Bench {
 }
 
 /// Scans the blocks of one kind or of all, and tells how many words were loaded.
-fn loads(alloc: Global, only: Option<Kind>) -> Result<u64, NoMemory> {
+pub fn loads(alloc: Global, only: Option<Kind>) -> Result<u64, NoMemory> {
     let mut bench = Bench::boot(alloc)?;
     for kind in [Kind::Zeros, Kind::Chain, Kind::Large] {
         if only.is_none() || only == Some(kind) {
@@ -121,20 +118,4 @@ fn loads(alloc: Global, only: Option<Kind>) -> Result<u64, NoMemory> {
     }
     let first = bench.scan();
     Ok(first.saturating_add(bench.scan()))
-}
-
-fn main(rt: HostRuntime) -> io::Result<()> {
-    let mut only = None;
-    for word in env::args(&rt)?.skip(1) {
-        only = match word.as_str() {
-            "zeros" => Some(Kind::Zeros),
-            "chain" => Some(Kind::Chain),
-            "large" => Some(Kind::Large),
-            _ => only,
-        };
-    }
-    match loads(rt.alloc(), only) {
-        Ok(loads) => println!(rt; "{loads} loads"),
-        Err(NoMemory) => println!(rt; "no memory"),
-    }
 }

@@ -1,11 +1,10 @@
-//! Reads each line of a generated script of 1,000,000 steps, twenty times over, and prints how many lines are commands.
-//! `bench/layers.sh` times it.
-#![tactic(auto)]
+//! Each line of a generated script of 1,000,000 steps is read, twenty times over.
 
+use km_base::NoMemory;
 use km_edge::{Cut, Lines, StdSource};
 use km_gen::script_of;
 use km_script::{Line, read_line};
-use std::io;
+use std::alloc::Global;
 
 /// The steps of the script.
 const STEPS: u32 = 1_000_000;
@@ -44,13 +43,12 @@ fn count(script: &[u8]) -> u64 {
     commands
 }
 
-fn main(rt: HostRuntime) -> io::Result<()> {
-    let Ok(script) = script_of(rt.alloc(), 1, STEPS) else {
-        return Ok(());
-    };
+/// Reads the script, and tells how many lines were commands, all times together.
+pub fn commands(alloc: Global) -> Result<u64, NoMemory> {
+    let script = script_of(alloc, 1, STEPS)?;
     let mut commands: u64 = 0;
     for _ in 0..TIMES {
         commands = commands.saturating_add(count(&script));
     }
-    println!(rt; "{commands} commands")
+    Ok(commands)
 }
