@@ -1,0 +1,4 @@
+pub mod Ticks
+pub mod Books
+pub mod Views
+pub mod Rule

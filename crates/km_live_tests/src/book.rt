@@ -1,0 +1,102 @@
+//! Books whose journals get full, and one that is handed on.
+
+ghost use Rattle.std.specs.Prelude.{◌≡◌, ◌≤◌, [], IfOk, length};
+
+use crate::workers::give_back;
+use km_base::{Act, Answer, NoMemory, Refusal};
+use km_core::Core;
+use km_live_map::{Baton, Booked, JournalFull};
+use km_tree::TreeMap;
+use km_words::{Plain, Words};
+use std::alloc::Global;
+use std::process::Abort;
+use std::sync::Wait;
+
+/// More acts and more milliseconds than any test has.
+const MOST: u64 = 1_000_000;
+
+/// A book of a core with 512 words, and those words.
+pub fn opened(alloc: Global, entries: u64) -> Result<(Booked, Plain), NoMemory>
+    requires { (1 ≤ entries) × (entries ≤ 4194304) }
+    ensures { IfOk result (λ r. (r.0.journal ≡ []) × (r.0.core.parts.words ≡ 512) × (length r.1 ≡ 512)) }
+{
+    let map = TreeMap::new(alloc, 512)?;
+    let core = Core::boot(alloc, 512, map)?;
+    let book = Booked::new(alloc, core, entries)?;
+    Ok((book, Plain::new(alloc, 512)?))
+}
+
+/// Makes an act that moves the time by at most a million milliseconds.
+fn act(
+    rt: &impl Abort,
+    book: &mut Booked,
+    words: &mut Plain,
+    act: Act,
+) -> Result<Answer, JournalFull> {
+    let core = book.core();
+    assert!(rt; core.events() < MOST && core.now() < MOST);
+    assert!(rt; words.words() == core.words());
+    assert!(rt; !matches!(act, Act::Tick(n) if n >= MOST));
+    book.act(0, words, act)
+}
+
+/// A journal with room for so many entries, and for a halt after them.
+fn filled(rt: &impl Abort, alloc: Global, entries: u64) -> Result<(), NoMemory>
+    requires { (1 ≤ entries) × (entries ≤ 4194304) }
+{
+    let (mut book, mut words) = opened(alloc, entries)?;
+    let full = Err(JournalFull(entries));
+    for n in 0..entries {
+        assert!(rt; book.journal().len() as u64 == n, "{n} entries");
+        assert!(rt; act(rt, &mut book, &mut words, Act::Tick(3)) == Ok(Answer::Done));
+    }
+    assert!(rt;
+        act(rt, &mut book, &mut words, Act::Tick(4)) == full,
+        "no room"
+    );
+    assert!(rt; book.core().now() == 3 * entries, "the moment stays");
+    let halted = Ok(Answer::Refused(Refusal::NoScanRunning));
+    assert!(rt;
+        act(rt, &mut book, &mut words, Act::Halt) == halted,
+        "room for a halt"
+    );
+    assert!(rt;
+        act(rt, &mut book, &mut words, Act::Halt) == full,
+        "for one"
+    );
+    assert!(rt; book.journal().len() as u64 == entries + 1, "a last entry");
+    assert!(rt;
+        book.into_core().events() == entries + 1,
+        "an event an entry"
+    );
+    Ok(())
+}
+
+#[test]
+fn journals_get_full(rt: HostRuntime) {
+    let alloc: Global = rt.alloc();
+    for entries in 1..5 {
+        assert!(rt; filled(&rt, alloc, entries).is_ok(), "memory");
+    }
+}
+
+/// One token holds the book while another tries to take it.
+fn handed_on<R: Wait + Abort>(rt: &R, alloc: Global) -> Result<(), NoMemory> {
+    let (book, _) = opened(alloc, 1)?;
+    let (baton, mut main) = Baton::new(rt, alloc, book)?;
+    let mut other = baton.split(rt, alloc, &mut main)?;
+    let book = baton.take(rt, &mut main);
+    assert!(rt; baton.try_take(rt, &mut other).is_err(), "the book is away");
+    give_back(rt, &baton, &mut main, book);
+    match baton.try_take(rt, &mut other) {
+        Ok(book) => give_back(rt, &baton, &mut other, book),
+        Err(_) => assert!(rt; false, "the book is there"),
+    }
+    Ok(())
+}
+
+#[test]
+fn a_book_is_away_while_a_token_holds_it(rt: HostRuntime) {
+    let alloc: Global = rt.alloc();
+    assert!(rt; handed_on(&rt, alloc).is_ok(), "memory");
+}

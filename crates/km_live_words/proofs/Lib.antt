@@ -1,0 +1,4 @@
+pub mod Orders
+pub mod Words
+pub mod Keeps
+pub mod Places
