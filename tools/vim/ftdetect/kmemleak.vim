@@ -1,0 +1,2 @@
+" Scripts of the leak detector end in .km.
+autocmd BufRead,BufNewFile *.km setfiletype kmemleak
