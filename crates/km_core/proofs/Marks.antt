@@ -1,7 +1,6 @@
 -- What the state answers each act, and the state after it, in the words of the calls that carry it out.
-use Rattle.std.proofs.Common.{◌≡◌, ℕ, ◌+◌, ◌*◌, ◌==◌, false, not, is_some, is_none, List, [], ◌∷◌, ◌++◌, map, Option, Some, None, if◌then◌else◌, refl, ap}
+use Rattle.std.proofs.Common.{◌≡◌, ℕ, ◌+◌, ◌*◌, false, not, is_some, is_none, List, [], ◌∷◌, ◌++◌, Option, Some, None, if◌then◌else◌, refl, ap}
 use Rattle.std.specs.List.{list_any}
-use Rattle.km_base.specs.declared.acts.Act.{Act}
 use Rattle.km_base.specs.declared.acts.Act.TheVariants as acts
 use Rattle.km_base.specs.declared.acts.FileCmd.{FileCmd}
 use Rattle.km_base.specs.declared.acts.FileCmd.TheVariants as file
@@ -11,19 +10,22 @@ use Rattle.km_base.specs.declared.acts.Answer.TheVariants.{Done, At, Loaded, Sto
 use Rattle.km_base.specs.declared.acts.Info.{Info}
 use Rattle.km_base.specs.declared.acts.Refusal.TheVariants.{BadAddress, BadSize, NotAllocated, NoTask, NotBoot, Disabled, NoScanRunning}
 use Rattle.km_model.specs.Memory.{in_memory}
-use Rattle.km_model.specs.Blocks.{Block, block_with, contains, painted_grey, painted_black, unscanned}
+use Rattle.km_model.specs.Blocks.{Block, block_with, contains, painted_grey}
 use Rattle.km_model.specs.Answers.{unless, is_uneven, is_kmalloc_at, is_plain_at, is_boot_with, unless_busy, annotation_answer, area_added, part_answer, stop_answer}
 use Rattle.km_model.specs.Placement.{PlainRun, kmalloc_span, kmalloc_use, lowest_run, lowest_slab, page_start, pages_for, run_place, slot_of_area}
 use Rattle.km_model.specs.Tasks.{task_named, with_register}
 use Rattle.km_state.specs.State.{State, Tracked, Scanning, blocks_in, running_of, world_of, is_listed_now}
 use Rattle.km_state.specs.StateAnswers.{state_answer, plain_answer, word_answer}
-use Rattle.km_state.specs.StateAfter.{state_after, changed, allocated, registered_at, unregistered, given_back, painted, section_added, task_started, task_exited, vmalloc_taken, vmalloc_given, boot_taken, part_freed, forgotten_at, scan_after_load}
+use Rattle.km_state.specs.StateAfter.{state_after, changed, allocated, registered_at, unregistered, given_back, painted, section_added, task_started, task_exited, vmalloc_taken, vmalloc_given, boot_taken, part_freed, scan_after_load}
+use Rattle.km_record.specs.declared.kinds.Note.{Note}
+use Rattle.km_record.specs.declared.kinds.Note.TheVariants.{NotLeak, Ignore, NoScan, TransientLeak}
 use Rattle.km_sections.specs.Named.{section_answer}
 use Rattle.km_tasks.specs.Roll.{start_answer}
 use Rattle.km_slab.specs.Blocks.{kmalloc_answer}
 use Rattle.km_vmalloc.specs.Areas.{vmalloc_answer}
 use Rattle.km_hosts.specs.Hosting.{pages_answer, boot_answer}
-use Rattle.km_objects.specs.Objects.{area_answered, scan_begun, scan_stopped, all_dropped}
+use Rattle.km_objects.specs.Objects.{annotated, area_answered, scan_begun, scan_stopped, all_dropped}
+use Rattle.km_core.specs.Kernels.{act_of}
 
 -- one event more
 abbrev pub counted : State → State
@@ -94,14 +96,8 @@ pub answer_part : (s : State) (a size v : ℕ) → state_answer s (acts.FreePart
 unfolding state_answer plain_answer
 answer_part s a size v = refl
 
--- an act on the block that begins at an address
-pub data Note : (ℕ → Act) → Type 0 where
-  NotLeak : Note acts.NotLeak
-  Ignore : Note acts.Ignore
-  NoScan : Note acts.NoScan
-  TransientLeak : Note acts.TransientLeak
-
-pub answer_note : {act : ℕ → Act} → Note act → (s : State) (a v : ℕ) → state_answer s (act a) v ≡ annotation_answer (world_of s) a
+-- a note of the block that begins at an address
+pub answer_note : (note : Note) (s : State) (a v : ℕ) → state_answer s (act_of note a) v ≡ annotation_answer (world_of s) a
 unfolding state_answer plain_answer
 answer_note NotLeak s a v = refl
 answer_note Ignore s a v = refl
@@ -194,21 +190,12 @@ pub after_part : (s : State) (a size : ℕ) → state_after s (acts.FreePart a s
 unfolding changed
 after_part s a size = ap (λ (x : State). part_freed x a size (block_with (blocks_in x.tracked) a)) (quiet s)
 
-pub after_not_leak : (s : State) (a : ℕ) → state_after s (acts.NotLeak a) Done ≡ painted (λ (t : Tracked). t.block.start == a) painted_grey (counted s)
+pub after_note : (note : Note) (s : State) (a : ℕ) → state_after s (act_of note a) Done ≡ annotated note a (counted s)
 unfolding changed
-after_not_leak s a = ap (λ (x : State). painted (λ (t : Tracked). t.block.start == a) painted_grey x) (quiet s)
-
-pub after_ignore : (s : State) (a : ℕ) → state_after s (acts.Ignore a) Done ≡ painted (λ (t : Tracked). t.block.start == a) painted_black (counted s)
-unfolding changed
-after_ignore s a = ap (λ (x : State). painted (λ (t : Tracked). t.block.start == a) painted_black x) (quiet s)
-
-pub after_no_scan : (s : State) (a : ℕ) → state_after s (acts.NoScan a) Done ≡ painted (λ (t : Tracked). t.block.start == a) unscanned (counted s)
-unfolding changed
-after_no_scan s a = ap (λ (x : State). painted (λ (t : Tracked). t.block.start == a) unscanned x) (quiet s)
-
-pub after_transient : (s : State) (a : ℕ) → state_after s (acts.TransientLeak a) Done ≡ record (counted s) { tracked = map (forgotten_at a) s.tracked }
-unfolding changed
-after_transient s a = ap (λ (x : State). record x { tracked = map (forgotten_at a) x.tracked }) (quiet s)
+after_note NotLeak s a = ap (annotated NotLeak a) (quiet s)
+after_note Ignore s a = ap (annotated Ignore a) (quiet s)
+after_note NoScan s a = ap (annotated NoScan a) (quiet s)
+after_note TransientLeak s a = ap (annotated TransientLeak a) (quiet s)
 
 pub after_area : (s : State) (a size : ℕ) → state_after s (acts.ScanArea a size) Done
     ≡ painted (λ (t : Tracked). contains a t.block) (λ (b : Block). record b { areas = b.areas ++ record { start = a; size = size } ∷ [] }) (counted s)

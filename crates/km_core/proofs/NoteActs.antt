@@ -18,24 +18,26 @@ use Rattle.km_laws.specs.Left.{total}
 use Rattle.km_laws.specs.Placed.{BlockPlaced, InMemory, WholeWords}
 use Rattle.km_laws.proofs.Accepted.{memory_word, even_size}
 use Rattle.km_model.specs.Placement.{Allocation}
+use Rattle.km_record.specs.declared.kinds.Note.{Note}
+use Rattle.km_record.specs.declared.kinds.Note.TheVariants.{NotLeak, Ignore, NoScan, TransientLeak}
 use Rattle.km_record.specs.declared.kinds.RecId.{RecId}
 use Rattle.km_state.specs.State.{State, Tracked, blocks_in, fresh, world_of}
 use Rattle.km_state.specs.StateAnswers.{state_answer}
-use Rattle.km_state.specs.StateAfter.{state_after, forgotten_at, part_freed, painted, rest_registered, unregistered}
+use Rattle.km_state.specs.StateAfter.{state_after, part_freed, painted, rest_registered, unregistered}
 use Rattle.km_reach.specs.Reached.{IsReached}
 use Rattle.km_record.specs.Records.{with_area}
 use Rattle.km_tasks.specs.Roll.{Roll}
 use Rattle.km_track.specs.Tracker.{Live, id_of, live_where, tracked_in}
 use Rattle.km_words.specs.Told.{Told}
-use Rattle.km_objects.specs.Objects.{Agree, AreOf, Objects, area_answered, done, places}
+use Rattle.km_objects.specs.Objects.{Agree, AreOf, Objects, annotated, area_answered, done, places}
 use Rattle.km_core.specs.Parts.{Answers, HostsStand, IsReady, IsWhole, Parts, StandsAs, Touches}
-use Rattle.km_core.specs.Kernels.{done_if}
-use Rattle.km_core.proofs.Marks.{counted, Note, NotLeak, Ignore, NoScan, TransientLeak, answer_note, answer_part, after_part, answer_area, after_area}
+use Rattle.km_core.specs.Kernels.{act_of, done_if}
+use Rattle.km_core.proofs.Marks.{counted, answer_note, answer_part, after_part, answer_area, after_area}
 use Rattle.km_core.proofs.Places.{bytes_most}
 use Rattle.km_core.proofs.Standing.{counted_stands, does_objects, enabled_is, refused}
 
 -- notes
-note_still : {act : ℕ → Act} → Note act → (a : ℕ) → ticks_of (act a) ≡ 0
+pub note_still : (note : Note) (a : ℕ) → ticks_of (act_of note a) ≡ 0
 note_still NotLeak a = refl
 note_still Ignore a = refl
 note_still NoScan a = refl
@@ -46,29 +48,45 @@ note_is s a on =
     ap (λ q. unless (not q) Disabled (elim (block_at (blocks_in s.tracked) a) as (λ _. Answer) [ None ↦ Refused NoObject | Some _ ↦ Done ])) on
     ∙ elim (block_at (blocks_in s.tracked) a) as (λ o. (elim o as (λ _. Answer) [ None ↦ Refused NoObject | Some _ ↦ Done ]) ≡ done_if (is_some o)) [ None ↦ refl | Some b ↦ refl ]
 
-pub disabled_note : {act : ℕ → Act} (p : Parts) → Note act → (a : ℕ) (s : State) → StandsAs p s → p.settings.enabled ≡ false → Refused Disabled ≡ state_answer s (act a) 0
+pub disabled_note : (p : Parts) (n : Note) (a : ℕ) (s : State) → StandsAs p s → p.settings.enabled ≡ false → Refused Disabled ≡ state_answer s (act_of n a) 0
 disabled_note p n a s stands off =
     sym (answer_note n s a 0 ∙ ap (λ q. unless (not q) Disabled (elim (block_at (blocks_in s.tracked) a) as (λ _. Answer) [ None ↦ Refused NoObject | Some _ ↦ Done ])) (enabled_is p s stands.hosts ∙ off))
 
-pub noted : {act : ℕ → Act} (p : Parts) (o : Objects) → Note act → (a : ℕ) (there : Bool) (next : State → State) → IsWhole p → p.settings.enabled ≡ true
+pub noted : (p : Parts) (o : Objects) (n : Note) (a : ℕ) (there : Bool) (next : State → State) → IsWhole p → p.settings.enabled ≡ true
     → ((s : State) → AreOf p.objects s → there ≡ is_some (block_at (blocks_in s.tracked) a))
     → ((s : State) → AreOf p.objects s → AreOf o (next s))
     → ((roll : Roll) → Agree p.objects roll → Agree o roll) → places o ≡ places p.objects
     → (there ≡ false → o ≡ p.objects)
-    → ((s : State) → state_after s (act a) Done ≡ next (counted s))
+    → ((s : State) → state_after s (act_of n a) Done ≡ next (counted s))
     → ((s : State) → HostsStand p s → HostsStand p (next s))
-    → Answers p (record p { objects = o }) (act a) (done_if there)
+    → Answers p (record p { objects = o }) (act_of n a) (done_if there)
 noted p o n a true next w on found objects agree room none after hosts =
-    does_objects p o _ Done next w (agree p.hosts.roll w.agree) room (note_still n a)
+    does_objects p o (act_of n a) Done next w (agree p.hosts.roll w.agree) room (note_still n a)
     (λ s stands reached. ap done_if (found s stands.objects) ∙ sym (note_is s a (enabled_is p s stands.hosts ∙ on)) ∙ sym (answer_note n s a 0))
     (λ s stands reached. after s) hosts (λ s stands reached. objects (counted s) (counted_stands p s stands).objects) refl refl
 noted p o n a false next w on found objects agree room none after hosts =
-    refused p (record p { objects = o }) _ NoObject w (ap (λ (x : Objects). record p { objects = x }) (none refl)) (note_still n a)
+    refused p (record p { objects = o }) (act_of n a) NoObject w (ap (λ (x : Objects). record p { objects = x }) (none refl)) (note_still n a)
     (λ s stands reached. ap done_if (found s stands.objects) ∙ sym (note_is s a (enabled_is p s stands.hosts ∙ on)) ∙ sym (answer_note n s a 0))
 
 pub quietly_if : (act : Act) (there : Bool) → ((t : Told) → Touches act Done t t) → ((r : Refusal) (t : Told) → Touches act (Refused r) t t) → (t : Told) → Touches act (done_if there) t t
 quietly_if act true d r t = d t
 quietly_if act false d r t = r NoObject t
+
+-- a note touches no word
+pub note_done : (note : Note) (a : ℕ) (t : Told) → Touches (act_of note a) Done t t
+note_done NotLeak a t = refl
+note_done Ignore a t = refl
+note_done NoScan a t = refl
+note_done TransientLeak a t = refl
+
+pub note_refused : (note : Note) (a : ℕ) (r : Refusal) (t : Told) → Touches (act_of note a) (Refused r) t t
+note_refused NotLeak a r t = refl
+note_refused Ignore a r t = refl
+note_refused NoScan a r t = refl
+note_refused TransientLeak a r t = refl
+
+pub noted_hosts : (p : Parts) (s : State) (note : Note) (a : ℕ) → HostsStand p s → HostsStand p (annotated note a s)
+noted_hosts p s note a r = record { memory = r.memory; held = r.held; started = r.started; tasks = r.tasks; settings = r.settings }
 
 -- an area
 pub area_disabled : (p : Parts) (a size : ℕ) (s : State) → StandsAs p s → p.settings.enabled ≡ false → Refused Disabled ≡ state_answer s (acts.ScanArea a size) 0
@@ -106,9 +124,6 @@ area_answers p o a size (Ok _) w on inside even answer state same agree room =
     (λ s stands reached. after_area s a size)
     (λ s r. painted_hosts p s (λ (t : Tracked). contains a t.block) (with_area a size) r)
     (λ s stands reached. state (counted s) (counted_stands p s stands).objects) refl refl
-
-pub forgotten_hosts : (p : Parts) (s : State) (a : ℕ) → HostsStand p s → HostsStand p (record s { tracked = map (forgotten_at a) s.tracked })
-forgotten_hosts p s a r = record { memory = r.memory; held = r.held; started = r.started; tasks = r.tasks; settings = r.settings }
 
 -- a part of boot memory
 abbrev part_last : State → ℕ → ℕ → Answer

@@ -1,11 +1,15 @@
 -- Small words of the kernel's calls.
 use Rattle.std.specs.Prelude.{ℕ, Bool, true, false, Option, Some, None, if◌then◌else◌}
+use Rattle.km_base.specs.declared.acts.Act.{Act}
+use Rattle.km_base.specs.declared.acts.Act.TheVariants as acts
 use Rattle.km_base.specs.declared.acts.FileCmd.{FileCmd}
 use Rattle.km_base.specs.declared.acts.FileCmd.TheVariants.{Off, Scan, Clear, Dump, Why}
 use Rattle.km_base.specs.declared.acts.Answer.{Answer}
 use Rattle.km_base.specs.declared.acts.Answer.TheVariants.{Done, Refused}
 use Rattle.km_base.specs.declared.acts.Refusal.{Refusal}
 use Rattle.km_base.specs.declared.acts.Refusal.TheVariants.{Busy, Disabled, NoObject}
+use Rattle.km_record.specs.declared.kinds.Note.{Note}
+use Rattle.km_record.specs.declared.kinds.Note.TheVariants.{NotLeak, Ignore, NoScan, TransientLeak}
 
 -- whether a word sets something and does nothing else
 abbrev pub is_setting : FileCmd → Bool
@@ -25,3 +29,10 @@ word_refused true (Some k) = Some (Busy k)
 -- done where there is a block
 abbrev pub done_if : Bool → Answer
 done_if there = if there then Done else Refused NoObject
+
+-- the act that takes a note of the block at an address
+abbrev pub act_of : Note → ℕ → Act
+act_of NotLeak a = acts.NotLeak a
+act_of Ignore a = acts.Ignore a
+act_of NoScan a = acts.NoScan a
+act_of TransientLeak a = acts.TransientLeak a

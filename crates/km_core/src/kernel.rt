@@ -7,7 +7,7 @@ ghost use Rattle.km_model.specs.Answers.{is_uneven as is_uneven_size, part_answe
 ghost use Rattle.km_model.specs.Blocks.{Block, block_with};
 ghost use Rattle.km_model.specs.Headline.{IsMemorySize};
 ghost use Rattle.km_model.specs.Placement.{head_with, slot_of_area};
-ghost use Rattle.km_core.specs.Kernels.{done_if, is_setting, word_refused};
+ghost use Rattle.km_core.specs.Kernels.{act_of, done_if, is_setting, word_refused};
 ghost use Rattle.km_state.specs.State.{State, blocks_in, opened, running_of};
 ghost use Rattle.km_base.specs.declared.acts.FileCmd.TheVariants as file;
 ghost use Rattle.km_state.specs.StateAfter.{registered_at};
@@ -23,7 +23,7 @@ use km_base::{Act, Addr, Answer, FileCmd, Name, NoMemory, Refusal, Reg, Span};
 use km_hosts::Hosts;
 use km_map::ObjectMap;
 use km_objects::Objects;
-use km_record::Paint;
+use km_record::Note;
 use km_sections::Sections;
 use km_tasks::Tasks;
 use km_track::Track;
@@ -285,52 +285,16 @@ impl<M: ObjectMap> Kernel<M> {
         }
     }
 
-    /// A block needs no reference any more.
-    fn not_leak(&mut self, start: Addr) -> Answer
+    /// Takes a note of a block.
+    fn annotate(&mut self, start: Addr, note: Note) -> Answer
         requires ready { IsReady self.old }
-        ensures answers { Answers self.old self.new (acts.NotLeak start.0) result }
-        ensures quiet { (t : Told) → Touches (acts.NotLeak start.0) result t t }
+        ensures answers { Answers self.old self.new (act_of note start.0) result }
+        ensures quiet { (t : Told) → Touches (act_of note start.0) result t t }
     {
         if !self.settings.enabled {
             return Answer::Refused(Refusal::Disabled);
         }
-        done_where(self.objects.paint(start, Paint::Grey))
-    }
-
-    /// A block is neither reported nor scanned any more.
-    fn ignore(&mut self, start: Addr) -> Answer
-        requires ready { IsReady self.old }
-        ensures answers { Answers self.old self.new (acts.Ignore start.0) result }
-        ensures quiet { (t : Told) → Touches (acts.Ignore start.0) result t t }
-    {
-        if !self.settings.enabled {
-            return Answer::Refused(Refusal::Disabled);
-        }
-        done_where(self.objects.paint(start, Paint::Black))
-    }
-
-    /// The content of a block isn't scanned any more.
-    fn no_scan(&mut self, start: Addr) -> Answer
-        requires ready { IsReady self.old }
-        ensures answers { Answers self.old self.new (acts.NoScan start.0) result }
-        ensures quiet { (t : Told) → Touches (acts.NoScan start.0) result t t }
-    {
-        if !self.settings.enabled {
-            return Answer::Refused(Refusal::Disabled);
-        }
-        done_where(self.objects.no_scan(start))
-    }
-
-    /// The sum of a block is forgotten, so that the next one counts as changed.
-    fn transient_leak(&mut self, start: Addr) -> Answer
-        requires ready { IsReady self.old }
-        ensures answers { Answers self.old self.new (acts.TransientLeak start.0) result }
-        ensures quiet { (t : Told) → Touches (acts.TransientLeak start.0) result t t }
-    {
-        if !self.settings.enabled {
-            return Answer::Refused(Refusal::Disabled);
-        }
-        done_where(self.objects.forget_sum(start))
+        done_where(self.objects.annotate(start, note))
     }
 
     /// A part of a block is scanned, and else only other such parts.
@@ -569,11 +533,11 @@ impl<M: ObjectMap> Kernel<M> {
             Act::VmGive(start) => self.give_area(Addr(start)),
             Act::BootMem(size) => self.take_boot(size),
             Act::FreePart { addr, size } => self.free_part(Addr(addr), size),
-            Act::NotLeak(start) => self.not_leak(Addr(start)),
-            Act::Ignore(start) => self.ignore(Addr(start)),
-            Act::NoScan(start) => self.no_scan(Addr(start)),
+            Act::NotLeak(start) => self.annotate(Addr(start), Note::NotLeak),
+            Act::Ignore(start) => self.annotate(Addr(start), Note::Ignore),
+            Act::NoScan(start) => self.annotate(Addr(start), Note::NoScan),
             Act::ScanArea { addr, size } => self.scan_area(Addr(addr), size),
-            Act::TransientLeak(start) => self.transient_leak(Addr(start)),
+            Act::TransientLeak(start) => self.annotate(Addr(start), Note::TransientLeak),
             Act::File(word) => self.write(word),
             Act::Read => self.read(),
             Act::Tick(n) => self.tick(n),

@@ -8,7 +8,7 @@ ghost use Rattle.km_free_part.specs.Parts.{rest_registered};
 
 use km_base::{Addr, Span};
 use km_map::ObjectMap;
-use km_record::{Minimum, Paint, RecId, Record};
+use km_record::{Minimum, Note, RecId, Record};
 use km_track::Track;
 
 /// Paints the block that begins at an address where another is black.
@@ -16,7 +16,7 @@ fn blacken<M: ObjectMap>(track: &mut Track<M>, start: Addr, of: &Record)
     ensures { track.new ≡ if is_black (block_of 0 of.now) then changed_at start.0 painted_black track.old else track.old }
 {
     if matches!(of.minimum, Minimum::Black) {
-        let _ = track.paint(start, Paint::Black);
+        let _ = track.annotate(start, Note::Ignore);
     }
 }
 
@@ -25,7 +25,7 @@ fn silence<M: ObjectMap>(track: &mut Track<M>, start: Addr, of: &Record)
     ensures { track.new ≡ if of.now.no_scan then changed_at start.0 unscanned track.old else track.old }
 {
     if of.no_scan {
-        let _ = track.no_scan(start);
+        let _ = track.annotate(start, Note::NoScan);
     }
 }
 

@@ -9,7 +9,7 @@ use Rattle.km_record.specs.declared.kinds.AreaFault.TheVariants as fault
 use Rattle.km_track.specs.Areas.{area_answer, unless_refused}
 use Rattle.km_track.specs.declared.faults.AreaRefusal.{AreaRefusal}
 use Rattle.km_record.specs.Records.{with_area}
-use Rattle.km_model.specs.Blocks.{Block, block_with, contains, unscanned}
+use Rattle.km_model.specs.Blocks.{Block, block_with, contains}
 use Rattle.km_state.specs.State.{State, Tracked, blocks_in}
 use Rattle.km_tasks.specs.Roll.{Roll}
 use Rattle.km_track.specs.Tracker.{Live, Tracker, changed, live_where, tracked_in}
@@ -73,12 +73,6 @@ pub changed_agree : (test : Live → Bool) (change : Tracked → Tracked) (o : O
 changed_agree test change o t u k roll keeps view after agree =
     let old : Agree (record { tracker = t; stand = k }) roll = subst (λ (x : Objects). Agree x roll) (sym view) agree in
     record { settled = old.settled; fits = subst (λ (x : Tracker). Fits k x roll) (sym after) (changed_kept k t roll test change keeps old.settled old.fits) }
-
-pub unscanned_keeps : KeepsPlaces (λ u. record u { block = unscanned u.block })
-unscanned_keeps u = (refl, refl, refl, λ h. h)
-
-pub kept_keeps : (kept : Option ℕ) → KeepsPlaces (λ u. record u { kept = kept })
-kept_keeps kept u = (refl, refl, refl, λ h. h)
 
 pub area_keeps : (a size : ℕ) → KeepsPlaces (λ u. record u { block = with_area a size u.block })
 area_keeps a size u = (refl, refl, refl, λ h. h)

@@ -1,15 +1,16 @@
 -- What the live blocks and their scanner are seen as, and how they agree with a state.
-use Rattle.std.specs.Prelude.{◌≡◌, ℕ, ◌+◌, map, [], length, Option, Some, None, option_map, Result, Ok, Err}
+use Rattle.std.specs.Prelude.{◌≡◌, ℕ, ◌+◌, ◌==◌, if◌then◌else◌, map, [], length, Option, Some, None, option_map, Result, Ok, Err}
 use Rattle.km_base.specs.declared.acts.Answer.{Answer}
 use Rattle.km_base.specs.declared.acts.Answer.TheVariants.{Done, Loaded, Refused}
 use Rattle.km_base.specs.declared.acts.Refusal.{Refusal}
 use Rattle.km_base.specs.declared.acts.Refusal.TheVariants.{AreaOverlap, NoObject, NotInside, TooManyAreas}
 use Rattle.km_model.specs.Answers.{area_added}
 use Rattle.km_model.specs.Blocks.{Block}
-use Rattle.km_state.specs.State.{State}
+use Rattle.km_record.specs.declared.kinds.Note.{Note}
+use Rattle.km_state.specs.State.{State, Tracked}
 use Rattle.km_state.specs.StateAfter.{begun_scan, uncounted}
 use Rattle.km_tasks.specs.Roll.{Roll}
-use Rattle.km_track.specs.Tracker.{Tracker, tracked_in}
+use Rattle.km_track.specs.Tracker.{Tracker, tracked_in, tracked_noted}
 use Rattle.km_track.specs.declared.faults.AreaRefusal.{AreaRefusal}
 use Rattle.km_track.specs.declared.faults.AreaRefusal.TheVariants as area
 use Rattle.km_scan.specs.declared.sweep.Sweep.{Sweep}
@@ -45,6 +46,10 @@ scan_begun s = record s { tracked = map uncounted s.tracked; scans = s.scans + 1
 -- a state in which no scan is running
 abbrev pub scan_stopped : State → State
 scan_stopped s = record s { scan = None }
+
+-- a state in which a note was taken of the block that begins at an address
+abbrev pub annotated : Note → ℕ → State → State
+annotated note a s = record s { tracked = map (λ (t : Tracked). if t.block.start == a then tracked_noted note t else t) s.tracked }
 
 -- a state in which no block is registered
 abbrev pub all_dropped : State → State

@@ -1,20 +1,20 @@
 //! The blocks and their scanner.
 
 ghost use Rattle.std.specs.List.{All};
-ghost use Rattle.std.specs.Prelude.{◌≡◌, ◌+◌, ◌%◌, ◌<◌, ◌≤◌, ◌^◌, ℕ, [], Some, None, true, false, is_some, option_map, IfOk, OnErr, map, ◌==◌};
+ghost use Rattle.std.specs.Prelude.{◌≡◌, ◌+◌, ◌%◌, ◌<◌, ◌≤◌, ◌^◌, ℕ, [], Some, None, true, false, is_some, option_map, IfOk, OnErr, map};
 ghost use Rattle.km_base.specs.declared.acts.Act.TheVariants.{Step};
 ghost use Rattle.km_free_part.specs.Parts.{front_of, rear_of};
 ghost use Rattle.km_model.specs.Answers.{part_answer};
-ghost use Rattle.km_model.specs.Blocks.{block_at, block_with, painted_grey, contains, unscanned};
+ghost use Rattle.km_model.specs.Blocks.{block_at, block_with, painted_grey, contains};
 ghost use Rattle.km_model.specs.History.{value_of};
 ghost use Rattle.km_model.specs.Memory.{in_memory as is_word};
 ghost use Rattle.km_model.specs.Past.{Place, is_loaded, is_refused};
-ghost use Rattle.km_objects.specs.Objects.{Agree, AreOf, IfLoaded, all_dropped, area_answered, done, places, refusal_of, scan_begun, scan_stopped};
-ghost use Rattle.km_record.specs.Records.{painted as painted_block, with_area};
+ghost use Rattle.km_objects.specs.Objects.{Agree, AreOf, IfLoaded, all_dropped, annotated, area_answered, done, places, refusal_of, scan_begun, scan_stopped};
+ghost use Rattle.km_record.specs.Records.{with_area};
 ghost use Rattle.km_scan.specs.Stand.{StackEnds, scanning_of, seen};
 ghost use Rattle.km_scan.specs.declared.sweep.Sweep.{Sweep};
 ghost use Rattle.km_state.specs.State.{State, blocks_in, is_listed_now, running_of, tracked_where, opened};
-ghost use Rattle.km_state.specs.StateAfter.{forgotten_at, painted, part_freed, registered_at, unregistered, state_after};
+ghost use Rattle.km_state.specs.StateAfter.{painted, part_freed, registered_at, unregistered, state_after};
 ghost use Rattle.km_state.specs.StateAnswers.{info_in, state_answer};
 ghost use Rattle.km_state.specs.StateNext.{next_in};
 ghost use Rattle.km_tasks.specs.Roll.{Roll};
@@ -26,7 +26,7 @@ use km_base::sizes::{BASE, PAGE};
 use km_base::{Addr, Answer, Info, NoMemory, Refusal, Span};
 use km_free_part::{PartFault, check_part, split};
 use km_map::ObjectMap;
-use km_record::Paint;
+use km_record::Note;
 use km_scan::Scanner;
 use km_tasks::Tasks;
 use km_track::{AreaRefusal, Track};
@@ -156,37 +156,15 @@ impl<M: ObjectMap> Objects<M> {
         }
     }
 
-    /// Paints the block that begins at an address, and tells whether there is one.
-    pub fn paint(&mut self, start: Addr, to: Paint) -> bool
+    /// Takes a note of the block that begins at an address, and tells whether there is one.
+    pub fn annotate(&mut self, start: Addr, note: Note) -> bool
         ensures answer { (s : State) → AreOf self.old s → result ≡ is_some (block_at (blocks_in s.tracked) start.0) }
-        ensures state { (s : State) → AreOf self.old s → AreOf self.new (painted (λ t. t.block.start == start.0) (painted_block to) s) }
+        ensures state { (s : State) → AreOf self.old s → AreOf self.new (annotated note start.0 s) }
         ensures agree { (roll : Roll) → Agree self.old roll → Agree self.new roll }
         ensures places { places self.new ≡ places self.old }
         ensures none { result ≡ false → self.new ≡ self.old }
     {
-        self.track.paint(start, to).is_ok()
-    }
-
-    /// The content of the block that begins at an address isn't scanned from then on. Tells whether there is one.
-    pub fn no_scan(&mut self, start: Addr) -> bool
-        ensures answer { (s : State) → AreOf self.old s → result ≡ is_some (block_at (blocks_in s.tracked) start.0) }
-        ensures state { (s : State) → AreOf self.old s → AreOf self.new (painted (λ t. t.block.start == start.0) unscanned s) }
-        ensures agree { (roll : Roll) → Agree self.old roll → Agree self.new roll }
-        ensures places { places self.new ≡ places self.old }
-        ensures none { result ≡ false → self.new ≡ self.old }
-    {
-        self.track.no_scan(start).is_ok()
-    }
-
-    /// Forgets the sum of the block that begins at an address, and tells whether there is one.
-    pub fn forget_sum(&mut self, start: Addr) -> bool
-        ensures answer { (s : State) → AreOf self.old s → result ≡ is_some (block_at (blocks_in s.tracked) start.0) }
-        ensures state { (s : State) → AreOf self.old s → AreOf self.new (record s { tracked = map (forgotten_at start.0) s.tracked }) }
-        ensures agree { (roll : Roll) → Agree self.old roll → Agree self.new roll }
-        ensures places { places self.new ≡ places self.old }
-        ensures none { result ≡ false → self.new ≡ self.old }
-    {
-        self.track.forget_sum(start).is_ok()
+        self.track.annotate(start, note).is_ok()
     }
 
     /// Adds an area, given in whole words, to the block that has its first byte.

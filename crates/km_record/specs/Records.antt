@@ -9,8 +9,8 @@ use Rattle.km_record.specs.declared.kinds.Minimum.{Minimum}
 use Rattle.km_record.specs.declared.kinds.Minimum.TheVariants.{Black, AtLeast}
 use Rattle.km_record.specs.declared.kinds.Colour.{Colour}
 use Rattle.km_record.specs.declared.kinds.Colour.TheVariants as colour
-use Rattle.km_record.specs.declared.kinds.Paint.{Paint}
-use Rattle.km_record.specs.declared.kinds.Paint.TheVariants as paint
+use Rattle.km_record.specs.declared.kinds.Note.{Note}
+use Rattle.km_record.specs.declared.kinds.Note.TheVariants as note
 use Rattle.km_record.specs.declared.kinds.AreaFault.{AreaFault}
 use Rattle.km_record.specs.declared.kinds.AreaFault.TheVariants.{NotInside, AreaOverlap, TooManyAreas}
 use Rattle.km_record.specs.declared.record.Record.{Record}
@@ -96,15 +96,26 @@ abbrev pub colour_in : Minimum → ℕ → Colour
 colour_in Black count = colour.Black
 colour_in (AtLeast n) count = if nat_lt count n then colour.White else colour.Grey
 
--- what a paint makes of a block
-abbrev pub painted : Paint → Block → Block
-painted paint.Grey b = model.painted_grey b
-painted paint.Black b = model.painted_black b
+-- what a note makes of a block
+abbrev pub noted : Note → Block → Block
+noted note.NotLeak b = model.painted_grey b
+noted note.Ignore b = model.painted_black b
+noted note.NoScan b = model.unscanned b
+noted note.TransientLeak b = b
 
--- a record after a paint
-abbrev pub record_painted : Paint → Record → Record
-record_painted paint.Grey r = record r { minimum = AtLeast 0 }
-record_painted paint.Black r = record r { minimum = Black; no_scan = true }
+-- the sum that is kept after a note
+abbrev pub kept_after : Note → Option ℕ → Option ℕ
+kept_after note.NotLeak kept = kept
+kept_after note.Ignore kept = kept
+kept_after note.NoScan kept = kept
+kept_after note.TransientLeak kept = None
+
+-- a record after a note
+abbrev pub record_noted : Note → Record → Record
+record_noted note.NotLeak r = record r { minimum = AtLeast 0 }
+record_noted note.Ignore r = record r { minimum = Black; no_scan = true }
+record_noted note.NoScan r = record r { no_scan = true }
+record_noted note.TransientLeak r = record r { sum = None }
 
 -- why a block takes no area: it goes past the block's end, it meets one that is kept, or four are kept
 abbrev pub area_fault : Block → ℕ → ℕ → Option AreaFault

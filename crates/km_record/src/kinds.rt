@@ -17,11 +17,17 @@ pub enum Colour {
     Black,
 }
 
-/// What a block can be painted: grey needs no reference, black is also not scanned.
+/// What can be noted of a block.
 #[derive(Clone, Copy, Debug, PartialEq)]
-pub enum Paint {
-    Grey,
-    Black,
+pub enum Note {
+    /// It needs no reference.
+    NotLeak,
+    /// It is never reported and not scanned.
+    Ignore,
+    /// Its content isn't scanned.
+    NoScan,
+    /// Its sum is forgotten, so that the next one counts as changed.
+    TransientLeak,
 }
 
 /// Why an area is not added.

@@ -4,5 +4,5 @@
 pub mod kinds;
 pub mod record;
 
-pub use kinds::{AreaFault, Colour, Minimum, Paint, RecId};
+pub use kinds::{AreaFault, Colour, Minimum, Note, RecId};
 pub use record::Record;

@@ -4,9 +4,9 @@ ghost use Rattle.std.specs.Prelude.{◌≡◌, ℕ, ◌+◌, ◌-◌, ◌*◌, �
 ghost use Rattle.std.specs.List.{list_any};
 ghost use Rattle.km_model.specs.Blocks.{contains, in_areas, is_within};
 ghost use Rattle.km_record.specs.Least.{IsLeast, lesser};
-ghost use Rattle.km_record.specs.Records.{is_met, is_unscanned, begins_full, IsLaid, area_fault, areas_in, block_of, colour_in, painted, record_painted, scanned_from, unless_fault, with_area};
+ghost use Rattle.km_record.specs.Records.{is_met, is_unscanned, begins_full, IsLaid, area_fault, areas_in, block_of, colour_in, noted, record_noted, scanned_from, unless_fault, with_area};
 
-use crate::kinds::{AreaFault, Colour, Minimum, Paint};
+use crate::kinds::{AreaFault, Colour, Minimum, Note};
 use km_base::{Addr, Span};
 use std::mem::size_of;
 
@@ -47,17 +47,19 @@ impl Record {
         }
     }
 
-    /// Paints a block. Its count and what the scans keep stay.
-    pub fn paint(&mut self, to: Paint)
-        ensures record { self.new ≡ record_painted to self.old }
-        ensures block { (id : ℕ) → block_of id self.new ≡ painted to (block_of id self.old) }
+    /// Takes a note. The count stays.
+    pub fn annotate(&mut self, note: Note)
+        ensures record { self.new ≡ record_noted note self.old }
+        ensures block { (id : ℕ) → block_of id self.new ≡ noted note (block_of id self.old) }
     {
-        match to {
-            Paint::Grey => self.minimum = Minimum::AtLeast(0),
-            Paint::Black => {
+        match note {
+            Note::NotLeak => self.minimum = Minimum::AtLeast(0),
+            Note::Ignore => {
                 self.minimum = Minimum::Black;
                 self.no_scan = true;
             }
+            Note::NoScan => self.no_scan = true,
+            Note::TransientLeak => self.sum = None,
         }
     }
 

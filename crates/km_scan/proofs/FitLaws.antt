@@ -7,13 +7,12 @@ use Rattle.km_base.specs.declared.acts.Reg.{Reg}
 use Rattle.km_base.specs.declared.spans.Span.{Span}
 use Rattle.km_links.specs.Chains.{is_in}
 use Rattle.km_record.specs.declared.kinds.RecId.{RecId}
-use Rattle.km_record.specs.declared.kinds.Paint.{Paint}
-use Rattle.km_record.specs.declared.kinds.Paint.TheVariants.{Grey, Black}
-use Rattle.km_record.specs.Records.{painted}
+use Rattle.km_record.specs.declared.kinds.Note.{Note}
+use Rattle.km_record.specs.declared.kinds.Note.TheVariants.{NotLeak, Ignore, NoScan, TransientLeak}
 use Rattle.km_model.specs.Tasks.{Task, place_of, with_register}
 use Rattle.km_state.specs.State.{Tracked, is_white_now}
 use Rattle.km_tasks.specs.Roll.{Roll, with_task, with_value, without}
-use Rattle.km_track.specs.Tracker.{Live, Tracker, changed, is_id, live_with, registered_in}
+use Rattle.km_track.specs.Tracker.{Live, Tracker, changed, is_id, live_with, registered_in, tracked_noted}
 use Rattle.km_scan.specs.declared.places.At.TheVariants.{Stack, Block as InBlock}
 use Rattle.km_scan.specs.declared.places.Cursor.{Cursor}
 use Rattle.km_scan.specs.declared.places.Cursor.TheVariants.{Start, Last, Behind}
@@ -70,9 +69,11 @@ change_kept t test change k id l e = record {
 pub changed_kept : (s : Stand) (t : Tracker) (roll : Roll) (test : Live → Bool) (change : Tracked → Tracked) → KeepsPlaces change → IsSettled s → Fits s t roll → Fits s (changed test change t) roll
 changed_kept s t roll test change k settled f = blocks_kept s t (changed test change t) roll (change_kept t test change k) settled f
 
-pub paint_keeps : (to : Paint) → KeepsPlaces (λ u. record u { block = painted to u.block })
-paint_keeps Grey u = (refl, refl, refl, λ h. le-ltb u.count 0 (omega arith))
-paint_keeps Black u = (refl, refl, refl, λ h. refl)
+pub note_keeps : (note : Note) → KeepsPlaces (tracked_noted note)
+note_keeps NotLeak u = (refl, refl, refl, λ h. le-ltb u.count 0 (omega arith))
+note_keeps Ignore u = (refl, refl, refl, λ h. refl)
+note_keeps NoScan u = (refl, refl, refl, λ h. h)
+note_keeps TransientLeak u = (refl, refl, refl, λ h. h)
 
 -- other tasks
 cursor_stays : (stacks : Bool) (cursor : Cursor) (t : Tracker) (roll now : Roll) → roll.started ≤ now.started → ((task a : ℕ) → task ≤ roll.started → All (IsStackWord task a) roll.tasks → All (IsStackWord task a) now.tasks)

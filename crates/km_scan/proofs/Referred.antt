@@ -1,7 +1,7 @@
-use Rattle.std.proofs.Common.{◌≡◌, ℕ, ◌+◌, ◌<◌, Bool, true, false, ◌&&◌, not, cond, eqb, ltb, leb, List, [], ◌∷◌, map, Option, Some, None, option_map, if◌then◌else◌, inl, inr, refl, sym, ap, ◌∙◌, subst, arith}
+use Rattle.std.proofs.Common.{◌≡◌, ℕ, ◌+◌, Bool, true, false, ◌&&◌, not, cond, eqb, ltb, List, [], ◌∷◌, map, Option, Some, None, option_map, if◌then◌else◌, refl, sym, ap, ◌∙◌, subst}
 use Rattle.std.specs.Prelude.{find, ◌==◌}
 use Rattle.std.specs.Option.{option_eq}
-use Rattle.std.proofs.lemmas.Bool.{eq-eqb, ne_eqb, eqb-true, leb-true, ltb-true, le-leb, lt-ltb, and_parts, and_from}
+use Rattle.std.proofs.lemmas.Bool.{eq-eqb, ne_eqb}
 use Rattle.km_base.specs.Spans.{untagged}
 use Rattle.km_record.specs.declared.kinds.RecId.{RecId}
 use Rattle.km_record.specs.declared.kinds.Minimum.{Minimum}
@@ -9,13 +9,13 @@ use Rattle.km_record.specs.declared.kinds.Minimum.TheVariants.{Black, AtLeast}
 use Rattle.km_record.specs.declared.kinds.Colour.TheVariants as colour
 use Rattle.km_record.specs.declared.record.Record.{Record}
 use Rattle.km_record.specs.Records.{colour_in, minimum_of}
-use Rattle.km_model.specs.Blocks.{Block, contains, is_black, needs, option_is, points_into}
+use Rattle.km_model.specs.Blocks.{Block, contains, is_black, needs, points_into}
 use Rattle.km_model.specs.Blocks as model
 use Rattle.km_model.specs.Past.{Place}
 use Rattle.km_model.specs.Scan.{is_holder}
 use Rattle.km_state.specs.State.{Tracked, is_white_now, tracked_where}
 use Rattle.km_state.specs.StateNext.{hit_block_in, hit_in, hit_white_in, ripe_by, with_last}
-use Rattle.km_track.specs.Tracker.{AreApart, AreRising, IsApartFrom, Live, NeverMeet, Tracker, begins, changed, counted, id_of, is_id, live_where, live_with, queued, tracked_in, tracked_of}
+use Rattle.km_track.specs.Tracker.{AreRising, Live, Tracker, begins, changed, counted, id_of, is_id, live_where, live_with, queued, tracked_in, tracked_of}
 use Rattle.km_track.proofs.Lives.{found_again, found_its, found_tracked, is_its, tracked_found}
 use Rattle.km_scan.specs.Stand.{hit_at, hit_found, hit_told, holder_of}
 use Rattle.km_scan.proofs.Ones.{map_one}

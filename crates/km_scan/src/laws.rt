@@ -5,16 +5,15 @@ ghost use Rattle.std.specs.Prelude.{◌≡◌, ℕ, ◌+◌, ◌^◌, ◌<◌, B
 ghost use Rattle.std.specs.List.{All};
 ghost use Rattle.km_base.specs.declared.acts.Reg.{Reg};
 ghost use Rattle.km_base.specs.declared.spans.Span.{Span};
-ghost use Rattle.km_model.specs.Blocks.{Block, unscanned};
 ghost use Rattle.km_model.specs.Past.{Place};
-ghost use Rattle.km_record.specs.declared.kinds.Paint.{Paint};
+ghost use Rattle.km_record.specs.declared.kinds.Note.{Note};
 ghost use Rattle.km_record.specs.declared.kinds.RecId.{RecId};
-ghost use Rattle.km_record.specs.Records.{painted, with_area};
+ghost use Rattle.km_record.specs.Records.{with_area};
 ghost use Rattle.km_state.specs.State.{Scanning, State, Tracked};
 ghost use Rattle.km_state.specs.StateAfter.{begins_at, begun_scan, scan_without, uncounted};
 ghost use Rattle.km_state.specs.StateNext.{load_at, next_in, queue_at, scan_told, sum_after, told};
 ghost use Rattle.km_tasks.specs.Roll.{Roll, with_task, with_value, without};
-ghost use Rattle.km_track.specs.Tracker.{AreRising, Live, NeverMeet, Tracker, changed, live_with, registered_in, scan_started, tracked_in, unregistered_at};
+ghost use Rattle.km_track.specs.Tracker.{AreRising, Live, NeverMeet, Tracker, changed, live_with, registered_in, scan_started, tracked_in, tracked_noted, unregistered_at};
 ghost use Rattle.km_scan.specs.Places.{place_of};
 ghost use Rattle.km_scan.specs.Stand.{EachStackWordPasses, EachWordPasses, Fits, FitsSweep, IsSettled, KeepsPlaces, Stand, due_in, load_told, scanning_of, seen, started, sweep_told, sweep_without};
 ghost use Rattle.km_scan.specs.declared.places.At.{At};
@@ -30,14 +29,11 @@ pub fn registered_fits()
     ensures { (s : Stand) (t : Tracker) (roll : Roll) (slot : ℕ) (span : Span) (references born : ℕ) → IsSettled s → Fits s t roll → Fits s (registered_in slot span references born t) roll }
 {}
 
-/// So does a change of blocks that moves none and makes none white: a paint, a block that isn't
-/// scanned any more, an area, a sum that is forgotten, an excess.
+/// So does a change of blocks that moves none and makes none white: a note, an area, an excess.
 pub fn changed_fits()
     ensures all { (s : Stand) (t : Tracker) (roll : Roll) (test : Live → Bool) (change : Tracked → Tracked) → KeepsPlaces change → IsSettled s → Fits s t roll → Fits s (changed test change t) roll }
-    ensures paint { (to : Paint) → KeepsPlaces (λ u. record u { block = painted to u.block }) }
-    ensures no_scan { KeepsPlaces (λ u. record u { block = unscanned u.block }) }
+    ensures note { (note : Note) → KeepsPlaces (tracked_noted note) }
     ensures area { (a size : ℕ) → KeepsPlaces (λ u. record u { block = with_area a size u.block }) }
-    ensures sum { (kept : Option ℕ) → KeepsPlaces (λ u. record u { kept = kept }) }
     ensures excess { (excess : Option ℕ) → KeepsPlaces (λ u. record u { block = record u.block { excess = excess } }) }
 {}
 

@@ -3,20 +3,19 @@ use Rattle.std.specs.Prelude.{find}
 use Rattle.std.specs.List.{list_any}
 use Rattle.std.proofs.lemmas.Bool.{and_from, and_parts, ltb-true, or_left, or_right, eqb-true, eqb-false, eq-eqb, both_ways}
 use Rattle.km_base.specs.declared.spans.Addr.{Addr}
-use Rattle.km_model.specs.Blocks.{unscanned}
 use Rattle.km_state.specs.State.{Tracked, is_white_now}
 use Rattle.km_links.specs.Chains.{is_in}
 use Rattle.km_map.specs.declared.entries.Entry.{Entry}
 use Rattle.km_map.specs.Entries.{starts_at, slot_where}
 use Rattle.km_record.specs.declared.kinds.RecId.{RecId}
-use Rattle.km_record.specs.declared.kinds.Paint.{Paint}
-use Rattle.km_record.specs.declared.kinds.Paint.TheVariants as paint
+use Rattle.km_record.specs.declared.kinds.Note.{Note}
+use Rattle.km_record.specs.declared.kinds.Note.TheVariants as notes
 use Rattle.km_record.specs.declared.record.Record.{Record}
 use Rattle.km_record.specs.declared.kinds.Minimum.TheVariants.{Black}
-use Rattle.km_record.specs.Records.{IsLaid, IsSound, painted, record_painted}
+use Rattle.km_record.specs.Records.{IsLaid, IsSound, record_noted}
 use Rattle.km_track.specs.declared.slots.Slot.{Slot}
-use Rattle.km_track.specs.Slots.{no_record, slot_at, slot_painted, slot_unscanned, slot_forgotten, slot_excess}
-use Rattle.km_track.specs.Tracker.{Live, Tracker, begins, changed, is_id, tracked_of}
+use Rattle.km_track.specs.Slots.{no_record, slot_at, slot_noted, slot_excess}
+use Rattle.km_track.specs.Tracker.{Live, Tracker, begins, changed, is_id, tracked_noted, tracked_of}
 use Rattle.km_track.specs.Holds.{live_at, entry_at, IdsRise, Holds}
 use Rattle.km_track.proofs.Members.{one_start}
 use Rattle.km_track.proofs.Searches.{live_id, where_some, where_none}
@@ -121,20 +120,6 @@ pub no_start : (S : List Slot) (order grey free : List ℕ) (es : List Entry) (r
     → find (λ (l : Live). begins a l.tracked.block) (map (live_at S) order) ≡ None
 no_start S order grey free es reg a h w = (where_none S order grey free es reg (starts_at a) (λ (l : Live). begins a l.tracked.block) h (λ m. refl) w).0
 
--- a record that is painted, and one that is no longer scanned
-pub sound_painted : (to : Paint) (r : Record) → IsSound r → IsSound (record_painted to r)
-sound_painted paint.Grey r s = record { start = s.start; size = s.size; end = s.end; inside = s.inside; packed = s.packed; places = s.places; quiet = λ e. absurd (let z : ⊥ = cc in z) }
-sound_painted paint.Black r s = record { start = s.start; size = s.size; end = s.end; inside = s.inside; packed = s.packed; places = s.places; quiet = λ _. refl }
-
-pub wrote_paint : (to : Paint) (S T : List Slot) (order grey free : List ℕ) (es : List Entry) (reg a n : ℕ) → Holds S order grey free es reg → Some n ≡ slot_where (starts_at a) es → T ≡ set S n (slot_painted to (slot_at S n))
-    → Wrote S T order grey free es reg (λ (l : Live). begins a l.tracked.block) (λ (u : Tracked). record u { block = painted to u.block })
-wrote_paint paint.Grey S T order grey free es reg a n h w e =
-    let p = at_start S order grey free es reg a n h w in
-    wrote S T order grey free es reg n (slot_painted paint.Grey (slot_at S n)) (λ (l : Live). begins a l.tracked.block) (λ (u : Tracked). record u { block = painted paint.Grey u.block }) h p.0 e refl refl (sound_painted paint.Grey _ (h.sound n p.0)) (λ f. absurd (omega (arith, ltb-true (slot_at S n).«record».count 0 f))) refl p.2 p.3
-wrote_paint paint.Black S T order grey free es reg a n h w e =
-    let p = at_start S order grey free es reg a n h w in
-    wrote S T order grey free es reg n (slot_painted paint.Black (slot_at S n)) (λ (l : Live). begins a l.tracked.block) (λ (u : Tracked). record u { block = painted paint.Black u.block }) h p.0 e refl refl (sound_painted paint.Black _ (h.sound n p.0)) (λ f. absurd (let z : ⊥ = cc in z)) refl p.2 p.3
-
 pub sound_with : (r q : Record) → IsSound r → q ≡ record r { areas = q.areas } → IsLaid q → IsSound q
 sound_with r q s o l =
     record { start = l.start; size = l.size; end = l.end; inside = l.inside; packed = l.packed; places = l.places; quiet = λ m. ap (λ (x : Record). x.no_scan) o ∙ s.quiet (sym (ap (λ (x : Record). x.minimum) o) ∙ m) }
@@ -142,17 +127,27 @@ sound_with r q s o l =
 pub same_sound : (r q : Record) → q.span ≡ r.span → q.areas ≡ r.areas → ((r.minimum ≡ Black → r.no_scan ≡ true) → q.minimum ≡ Black → q.no_scan ≡ true) → IsSound r → IsSound q
 same_sound r q e f g s = record { start = rw e s.start; size = rw e s.size; end = rw e s.end; inside = rw (e, f) s.inside; packed = rw f s.packed; places = rw f s.places; quiet = g s.quiet }
 
-pub wrote_unscanned : (S T : List Slot) (order grey free : List ℕ) (es : List Entry) (reg a n : ℕ) → Holds S order grey free es reg → Some n ≡ slot_where (starts_at a) es → T ≡ set S n (slot_unscanned (slot_at S n))
-    → Wrote S T order grey free es reg (λ (l : Live). begins a l.tracked.block) (λ (u : Tracked). record u { block = unscanned u.block })
-wrote_unscanned S T order grey free es reg a n h w e =
-    let p = at_start S order grey free es reg a n h w in
-    wrote S T order grey free es reg n (slot_unscanned (slot_at S n)) (λ (l : Live). begins a l.tracked.block) (λ (u : Tracked). record u { block = unscanned u.block }) h p.0 e refl refl (same_sound (slot_at S n).«record» _ refl refl (λ _ _. refl) (h.sound n p.0)) (λ f. f) refl p.2 p.3
+-- a record of which a note was taken
+pub sound_noted : (note : Note) (r : Record) → IsSound r → IsSound (record_noted note r)
+sound_noted notes.NotLeak r s = record { start = s.start; size = s.size; end = s.end; inside = s.inside; packed = s.packed; places = s.places; quiet = λ e. absurd (let z : ⊥ = cc in z) }
+sound_noted notes.Ignore r s = record { start = s.start; size = s.size; end = s.end; inside = s.inside; packed = s.packed; places = s.places; quiet = λ _. refl }
+sound_noted notes.NoScan r s = record { start = s.start; size = s.size; end = s.end; inside = s.inside; packed = s.packed; places = s.places; quiet = λ _. refl }
+sound_noted notes.TransientLeak r s = record { start = s.start; size = s.size; end = s.end; inside = s.inside; packed = s.packed; places = s.places; quiet = s.quiet }
 
-pub wrote_forgotten : (S T : List Slot) (order grey free : List ℕ) (es : List Entry) (reg a n : ℕ) → Holds S order grey free es reg → Some n ≡ slot_where (starts_at a) es → T ≡ set S n (slot_forgotten (slot_at S n))
-    → Wrote S T order grey free es reg (λ (l : Live). begins a l.tracked.block) (λ (u : Tracked). record u { kept = None })
-wrote_forgotten S T order grey free es reg a n h w e =
+pub wrote_noted : (note : Note) (S T : List Slot) (order grey free : List ℕ) (es : List Entry) (reg a n : ℕ) → Holds S order grey free es reg → Some n ≡ slot_where (starts_at a) es → T ≡ set S n (slot_noted note (slot_at S n))
+    → Wrote S T order grey free es reg (λ (l : Live). begins a l.tracked.block) (tracked_noted note)
+wrote_noted notes.NotLeak S T order grey free es reg a n h w e =
     let p = at_start S order grey free es reg a n h w in
-    wrote S T order grey free es reg n (slot_forgotten (slot_at S n)) (λ (l : Live). begins a l.tracked.block) (λ (u : Tracked). record u { kept = None }) h p.0 e refl refl (same_sound (slot_at S n).«record» _ refl refl (λ q. q) (h.sound n p.0)) (λ f. f) refl p.2 p.3
+    wrote S T order grey free es reg n (slot_noted notes.NotLeak (slot_at S n)) (λ (l : Live). begins a l.tracked.block) (tracked_noted notes.NotLeak) h p.0 e refl refl (sound_noted notes.NotLeak _ (h.sound n p.0)) (λ f. absurd (omega (arith, ltb-true (slot_at S n).«record».count 0 f))) refl p.2 p.3
+wrote_noted notes.Ignore S T order grey free es reg a n h w e =
+    let p = at_start S order grey free es reg a n h w in
+    wrote S T order grey free es reg n (slot_noted notes.Ignore (slot_at S n)) (λ (l : Live). begins a l.tracked.block) (tracked_noted notes.Ignore) h p.0 e refl refl (sound_noted notes.Ignore _ (h.sound n p.0)) (λ f. absurd (let z : ⊥ = cc in z)) refl p.2 p.3
+wrote_noted notes.NoScan S T order grey free es reg a n h w e =
+    let p = at_start S order grey free es reg a n h w in
+    wrote S T order grey free es reg n (slot_noted notes.NoScan (slot_at S n)) (λ (l : Live). begins a l.tracked.block) (tracked_noted notes.NoScan) h p.0 e refl refl (sound_noted notes.NoScan _ (h.sound n p.0)) (λ f. f) refl p.2 p.3
+wrote_noted notes.TransientLeak S T order grey free es reg a n h w e =
+    let p = at_start S order grey free es reg a n h w in
+    wrote S T order grey free es reg n (slot_noted notes.TransientLeak (slot_at S n)) (λ (l : Live). begins a l.tracked.block) (tracked_noted notes.TransientLeak) h p.0 e refl refl (sound_noted notes.TransientLeak _ (h.sound n p.0)) (λ f. f) refl p.2 p.3
 
 -- the one block with an id
 pub at_id : (S : List Slot) (order : List ℕ) (id : RecId) → list_any (is_id id) (map (live_at S) order) ≡ true → (is_in id.slot order ≡ true) × (is_id id (live_at S id.slot) ≡ true) × ((m : ℕ) → is_in m order ≡ true → is_id id (live_at S m) ≡ true → m ≡ id.slot)

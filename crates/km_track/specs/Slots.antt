@@ -1,12 +1,12 @@
-use Rattle.std.specs.Prelude.{◌≡◌, ◌<◌, ◌⊎◌, ◌∷◌, ◌++◌, drop, length, slice_set, ℕ, ◌+◌, Bool, true, false, ◌||◌, List, [], slice_index_or, Some, None, if◌then◌else◌}
+use Rattle.std.specs.Prelude.{◌≡◌, ◌<◌, ◌⊎◌, ◌∷◌, ◌++◌, drop, length, slice_set, ℕ, ◌+◌, Bool, false, ◌||◌, List, [], slice_index_or, Some, None, if◌then◌else◌}
 use Rattle.km_base.specs.declared.spans.Addr.{Addr}
 use Rattle.km_base.specs.declared.spans.Span.{Span}
 use Rattle.km_links.specs.Chains.{first_of, without}
 use Rattle.km_model.specs.Scan.{differs}
 use Rattle.km_record.specs.declared.record.Record.{Record}
 use Rattle.km_record.specs.declared.kinds.Minimum.TheVariants.{Black, AtLeast}
-use Rattle.km_record.specs.declared.kinds.Paint.{Paint}
-use Rattle.km_record.specs.Records.{IsSound, with_area, block_of, record_painted}
+use Rattle.km_record.specs.declared.kinds.Note.{Note}
+use Rattle.km_record.specs.Records.{IsSound, with_area, block_of, record_noted}
 use Rattle.km_model.specs.Blocks.{needs, references_of}
 use Rattle.km_track.specs.declared.slots.Slot.{Slot}
 
@@ -36,14 +36,8 @@ slot_at slots n = slice_index_or slots n no_record
 abbrev pub with_record : (Record → Record) → Slot → Slot
 with_record change x = record { generation = x.generation; «record» = change x.«record» }
 
-abbrev pub slot_painted : Paint → Slot → Slot
-slot_painted to x = with_record (record_painted to) x
-
-abbrev pub slot_unscanned : Slot → Slot
-slot_unscanned x = with_record (λ (r : Record). record r { no_scan = true }) x
-
-abbrev pub slot_forgotten : Slot → Slot
-slot_forgotten x = with_record (λ (r : Record). record r { sum = None }) x
+abbrev pub slot_noted : Note → Slot → Slot
+slot_noted note x = with_record (record_noted note) x
 
 abbrev pub slot_excess : Addr → Slot → Slot
 slot_excess to x = with_record (λ (r : Record). record r { excess = Some to }) x

@@ -5,8 +5,9 @@ use Rattle.km_model.specs.Blocks.{Block, AtLeast, needs, references_of}
 use Rattle.km_state.specs.State.{Tracked, fresh}
 use Rattle.km_model.specs.Scan.{differs}
 use Rattle.km_record.specs.declared.record.Record.{Record}
+use Rattle.km_record.specs.declared.kinds.Note.{Note}
 use Rattle.km_record.specs.declared.kinds.RecId.{RecId}
-use Rattle.km_record.specs.Records.{block_of}
+use Rattle.km_record.specs.Records.{block_of, kept_after, noted}
 
 -- a live block with the slot of its record
 pub record Live : Type 0 where
@@ -86,6 +87,10 @@ changed test change t = record t { live = map (λ (l : Live). if test l then rec
 -- the tracker with the blocks at an address changed
 abbrev pub changed_at : ℕ → (Block → Block) → Tracker → Tracker
 changed_at a change t = changed (λ (l : Live). begins a l.tracked.block) (λ (u : Tracked). record u { block = change u.block }) t
+
+-- a block after a note
+abbrev pub tracked_noted : Note → Tracked → Tracked
+tracked_noted note u = record u { block = noted note u.block; kept = kept_after note u.kept }
 
 -- the tracker with an id at the end of the queue
 abbrev pub queued : Bool → ℕ → Tracker → Tracker

@@ -7,11 +7,11 @@ ghost use Rattle.km_model.specs.Scan.{differs};
 ghost use Rattle.km_record.specs.Records.{IsSound, area_fault, block_of, unless_fault};
 ghost use Rattle.km_state.specs.State.{is_white_now};
 ghost use Rattle.km_track.specs.Tracker.{tracked_of};
-ghost use Rattle.km_track.specs.Slots.{IsWithArea, IsPlaced, next_slot, slot_new, slot_at, slot_counted, slot_excess, slot_forgotten, slot_judged, slot_painted, slot_started, started_queue, started_slots, slot_summed, is_root as needs_none, requeued, slot_unscanned};
+ghost use Rattle.km_track.specs.Slots.{IsWithArea, IsPlaced, next_slot, slot_new, slot_at, slot_counted, slot_excess, slot_judged, slot_noted, slot_started, started_queue, started_slots, slot_summed, is_root as needs_none, requeued};
 
 use km_base::{Addr, Span};
 use km_links::{Links, Which};
-use km_record::{AreaFault, Minimum, Paint, Record};
+use km_record::{AreaFault, Minimum, Note, Record};
 use std::mem::size_of;
 
 /// A record, and the number of the registration that it is or was of: 168 bytes.
@@ -23,28 +23,12 @@ pub struct Slot {
 
 const _: () = prove!(size_of::<Slot>() == 168);
 
-pub fn paint(slots: &mut Vec<Slot>, n: u32, to: Paint)
+pub fn annotate(slots: &mut Vec<Slot>, n: u32, note: Note)
     requires { n < length slots.old.items }
-    ensures items { slots.new.items ≡ slice_set slots.old.items n (slot_painted to (slot_at slots.old.items n)) }
+    ensures items { slots.new.items ≡ slice_set slots.old.items n (slot_noted note (slot_at slots.old.items n)) }
     ensures capacity { vec_capacity slots.new ≡ vec_capacity slots.old }
 {
-    slots[n as usize].record.paint(to);
-}
-
-pub fn stop_scanning(slots: &mut Vec<Slot>, n: u32)
-    requires { n < length slots.old.items }
-    ensures items { slots.new.items ≡ slice_set slots.old.items n (slot_unscanned (slot_at slots.old.items n)) }
-    ensures capacity { vec_capacity slots.new ≡ vec_capacity slots.old }
-{
-    slots[n as usize].record.no_scan = true;
-}
-
-pub fn forget_sum(slots: &mut Vec<Slot>, n: u32)
-    requires { n < length slots.old.items }
-    ensures items { slots.new.items ≡ slice_set slots.old.items n (slot_forgotten (slot_at slots.old.items n)) }
-    ensures capacity { vec_capacity slots.new ≡ vec_capacity slots.old }
-{
-    slots[n as usize].record.sum = None;
+    slots[n as usize].record.annotate(note);
 }
 
 pub fn set_excess(slots: &mut Vec<Slot>, n: u32, to: Addr)

@@ -5,17 +5,17 @@ ghost use Rattle.km_links.specs.Chains.{first_of, is_in};
 ghost use Rattle.km_model.specs.Scan.{differs};
 ghost use Rattle.km_state.specs.State.{is_white_now};
 ghost use Rattle.std.specs.Result.{result_ok};
-ghost use Rattle.km_record.specs.Records.{IsSound, painted, with_area};
-ghost use Rattle.km_model.specs.Blocks.{contains, needs, unscanned};
+ghost use Rattle.km_record.specs.Records.{IsSound, with_area};
+ghost use Rattle.km_model.specs.Blocks.{contains, needs};
 ghost use Rattle.km_track.specs.Areas.{area_answer};
-ghost use Rattle.km_track.specs.Tracker.{AreRising, IsLowest, NeverMeet, meets, registered_in, scan_started, unregistered_at, Live, begins, counted, judged, queued, summed, changed, changed_at, is_id, first_live, id_of, is_live, live_behind, live_where, live_with, tracked_of};
+ghost use Rattle.km_track.specs.Tracker.{AreRising, IsLowest, NeverMeet, meets, registered_in, scan_started, unregistered_at, Live, begins, counted, judged, queued, summed, changed, is_id, first_live, id_of, is_live, live_behind, live_where, live_with, tracked_noted, tracked_of};
 
 use crate::faults::{self, AreaRefusal, NoObject, Overlap};
 use crate::slots::{self, Slot};
 use km_base::{Addr, NoMemory, Span};
 use km_links::{Links, Which};
 use km_map::ObjectMap;
-use km_record::{Paint, RecId, Record};
+use km_record::{Note, RecId, Record};
 use std::alloc::Global;
 use std::marker::Model;
 
@@ -164,29 +164,16 @@ impl<M: ObjectMap> Track<M> {
         Some(RecId { slot, generation })
     }
 
-    /// Paints the block that begins at an address. No count and no queue changes.
-    pub fn paint(&mut self, start: Addr, to: Paint) -> Result<(), NoObject>
+    /// Takes a note of the block that begins at an address. No count and no queue changes.
+    pub fn annotate(&mut self, start: Addr, note: Note) -> Result<(), NoObject>
         ensures answer { is_ok result ≡ is_some (live_where (begins start.0) self.old) }
-        ensures block { self.new ≡ changed_at start.0 (painted to) self.old }
+        ensures block { self.new ≡ changed (λ l. begins start.0 l.tracked.block) (tracked_noted note) self.old }
         ensures refused { OnErr result (self.new ≡ self.old) }
     {
         let Some(slot) = self.map.find_start(start) else {
             return Err(NoObject);
         };
-        slots::paint(&mut self.slots, slot, to);
-        Ok(())
-    }
-
-    /// The content of the block that begins at an address isn't scanned from then on.
-    pub fn no_scan(&mut self, start: Addr) -> Result<(), NoObject>
-        ensures answer { is_ok result ≡ is_some (live_where (begins start.0) self.old) }
-        ensures block { self.new ≡ changed_at start.0 unscanned self.old }
-        ensures refused { OnErr result (self.new ≡ self.old) }
-    {
-        let Some(slot) = self.map.find_start(start) else {
-            return Err(NoObject);
-        };
-        slots::stop_scanning(&mut self.slots, slot);
+        slots::annotate(&mut self.slots, slot, note);
         Ok(())
     }
 
@@ -208,19 +195,6 @@ impl<M: ObjectMap> Track<M> {
         if let Err(fault) = slots::add_area(&mut self.slots, slot, area) {
             return Err(faults::refusal(fault));
         }
-        Ok(())
-    }
-
-    /// Forgets the kept sum of the block that begins at an address.
-    pub fn forget_sum(&mut self, start: Addr) -> Result<(), NoObject>
-        ensures answer { is_ok result ≡ is_some (live_where (begins start.0) self.old) }
-        ensures block { self.new ≡ changed (λ l. begins start.0 l.tracked.block) (λ u. record u { kept = None }) self.old }
-        ensures refused { OnErr result (self.new ≡ self.old) }
-    {
-        let Some(slot) = self.map.find_start(start) else {
-            return Err(NoObject);
-        };
-        slots::forget_sum(&mut self.slots, slot);
         Ok(())
     }
 

@@ -4,7 +4,7 @@ ghost use Rattle.std.specs.Prelude.{◌≡◌, ◌+◌, ◌<◌};
 ghost use Rattle.km_record.specs.Records.{IsLaid};
 
 use km_base::{Addr, Span};
-use km_record::{AreaFault, Colour, Minimum, Paint, Record};
+use km_record::{AreaFault, Colour, Minimum, Note, Record};
 
 const B: u64 = 0xffff_8880_0000_1000;
 
@@ -72,10 +72,10 @@ fn colours_follow_counts_and_paints(rt: HostRuntime) {
     assert_eq!(rt; block.colour(), Colour::Grey);
     assert_eq!(rt; block.next_word(7), Some(7));
     assert_eq!(rt; block.next_word(8), None);
-    block.paint(Paint::Black);
+    block.annotate(Note::Ignore);
     assert_eq!(rt; block.colour(), Colour::Black);
     assert_eq!(rt; block.next_word(0), None);
-    block.paint(Paint::Grey);
+    block.annotate(Note::NotLeak);
     assert_eq!(rt; block.colour(), Colour::Grey);
     block.minimum = Minimum::Black;
     block.no_scan = false;

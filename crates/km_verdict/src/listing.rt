@@ -1,7 +1,7 @@
 //! The listing: the blocks that were unreferenced at the last completed scan and weren't painted
 //! since, in order of registration.
 
-ghost use Rattle.std.specs.Prelude.{◌≡◌, true, Some, IfSome};
+ghost use Rattle.std.specs.Prelude.{◌≡◌, true, Some};
 ghost use Rattle.km_state.specs.State.{is_listed_now};
 ghost use Rattle.km_state.specs.StateAnswers.{info_in};
 ghost use Rattle.km_track.specs.Tracker.{AreRising, Live, is_live, live_with, tracked_of};
@@ -9,7 +9,7 @@ ghost use Rattle.km_verdict.specs.Listing.{behind, cleared, listed_in, painted_i
 
 use km_base::{Addr, Info};
 use km_map::ObjectMap;
-use km_record::{Minimum, Paint, RecId, Record};
+use km_record::{Minimum, Note, RecId, Record};
 use km_track::Track;
 
 /// Whether a live block is listed.
@@ -73,7 +73,7 @@ fn paint<M: ObjectMap>(track: &mut Track<M>, id: RecId)
         return;
     };
     let start = record.span.start;
-    let _ = track.paint(start, Paint::Grey);
+    let _ = track.annotate(start, Note::NotLeak);
 }
 
 /// What is shown of a record.

@@ -9,4 +9,4 @@ returns-in_default g c = absurd (live_found c.args.id c.args.track.now.live c.re
 pub returns : goal.returns
 returns g c =
     let e = c.in-Some.ensures {u = tt} in
-    c.paint.ensures.block ∙ paints_one c.args.track.now c.args.id (record { slot = c.args.id.slot; tracked = tracked_of c.args.id.generation c.in-Some.record.now }) e.rising e.apart (sym e.block)
+    c.annotate.ensures.block ∙ paints_one c.args.track.now c.args.id (record { slot = c.args.id.slot; tracked = tracked_of c.args.id.generation c.in-Some.record.now }) e.rising e.apart (sym e.block)
