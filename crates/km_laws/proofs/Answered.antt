@@ -1,14 +1,14 @@
-use Rattle.std.proofs.Common.{◌≡◌, ℕ, ◌+◌, ◌<◌, ◌^◌, Bool, true, false, refl, sym, ap, ◌∙◌, subst, arith}
+use Rattle.std.proofs.Common.{◌≡◌, ℕ, true, false, refl, sym, ap, ◌∙◌, subst, arith}
 use Rattle.km_base.specs.declared.acts.Act.{Act}
-use Rattle.km_base.specs.declared.acts.Act.TheVariants.{Kmalloc, Load, Step}
+use Rattle.km_base.specs.declared.acts.Act.TheVariants.{Load, Step}
 use Rattle.km_base.specs.declared.acts.Answer.{Answer}
 use Rattle.km_base.specs.declared.acts.Answer.TheVariants.{At}
 use Rattle.km_base.specs.declared.acts.Refusal.TheVariants.{BadSize}
 use Rattle.km_model.specs.History.{value_of}
-use Rattle.km_model.specs.Placement.{kmalloc_place, kmalloc_span}
+use Rattle.km_model.specs.Placement.{kmalloc_place}
 use Rattle.km_model.specs.World.{World}
 use Rattle.km_model.specs.Past.{Past, world, is_loaded, is_refused}
-use Rattle.km_model.specs.Answers.{answer, at_place, is_bad_size, unless}
+use Rattle.km_model.specs.Answers.{answer, at_place, is_bad_size}
 use Rattle.km_model.specs.Follows.{past_of}
 use Rattle.km_model.proofs.AnswerLaws.{answers_have}
 use Rattle.km_laws.specs.Laws.{may_load, OnlyLoadsLoad, BlockLies, BlocksLie}

@@ -1,8 +1,8 @@
-use Rattle.std.proofs.Common.{◌≡◌, ℕ, zero, suc, ◌+◌, ◌-◌, ◌*◌, ◌/◌, ◌<◌, ◌≤◌, Bool, true, false, nat_le, nat_lt, List, [], ◌∷◌, Some, None, if◌then◌else◌, refl, sym, ap, ◌∙◌, subst, arith, ◌⊎◌, inl, inr, ltb-true, leb-true, lt-ltb, le-ltb, mul-le-mul_left, add-zero}
+use Rattle.std.proofs.Common.{◌≡◌, ℕ, zero, suc, ◌+◌, ◌-◌, ◌*◌, ◌/◌, ◌<◌, ◌≤◌, Bool, true, false, nat_le, nat_lt, List, [], ◌∷◌, Some, None, if◌then◌else◌, refl, sym, ap, ◌∙◌, subst, arith, ◌⊎◌, inl, inr, leb-true, le-ltb, mul-le-mul_left}
 use Rattle.std.specs.List.{list_any}
 use Rattle.std.proofs.lemmas.Bool.{cases_lt, cases_order, and_parts, and_from, and_right, not-true, not_from_false, both_ways}
 use Rattle.km_model.specs.Memory.{base}
-use Rattle.km_model.specs.Placement.{Allocation, page_start, page_of, least_from, touches, is_free_page, are_free_pages, page_behind, lowest_run, run_place, is_slab_block}
+use Rattle.km_model.specs.Placement.{Allocation, page_start, page_of, touches, is_free_page, are_free_pages, page_behind, lowest_run, run_place, is_slab_block}
 use Rattle.km_model.proofs.Pages.{least_passes, behind_end, touch, touched}
 use Rattle.km_laws.specs.Placed.{Apart, AllocationsApart, InMemory, Words, WholeWords}
 use Rattle.km_laws.proofs.Lists.{Each, In, none_in, each_none}

@@ -2,7 +2,6 @@
 use Rattle.std.specs.Prelude.{◌≡◌, ℕ, ◌+◌, ◌≤◌, List, length, slice_get, Some}
 use Rattle.km_base.specs.declared.acts.Act.{Act}
 use Rattle.km_base.specs.declared.acts.Act.TheVariants.{Halt}
-use Rattle.km_base.specs.declared.acts.Answer.{Answer}
 use Rattle.km_core.specs.Cores.{Seen, Stands}
 use Rattle.km_model.specs.History.{History}
 use Rattle.km_state.specs.State.{State}

@@ -1,19 +1,19 @@
 -- Each call keeps the rule of the words.
-use Rattle.std.proofs.Common.{◌≡◌, ◌≢◌, ℕ, zero, suc, ◌+◌, ◌-◌, ◌<◌, ◌≤◌, ◌⊎◌, true, false, true≢false, List, [], ◌∷◌, ◌++◌, length, set, slice_index, slice_set, get_or, sym, refl, ap, ◌∙◌, subst, inl, inr, ⊎_elim, arith}
+use Rattle.std.proofs.Common.{◌≡◌, ◌≢◌, ℕ, zero, suc, ◌+◌, ◌-◌, ◌<◌, ◌⊎◌, true, false, List, [], ◌∷◌, ◌++◌, length, set, slice_index, slice_set, get_or, sym, ap, ◌∙◌, ⊎_elim}
 use Rattle.std.proofs.lemmas.List.{set-get_or, ext_get_or}
 use Rattle.std.proofs.Math.Numerals.{add-one}
 use mathlib.Core.Option.{none, some, some-injective, some-ne-none}
 use lib.ListN.{get_elem?}
 use Rattle.atomic_table.specs.Table.{State, Me, keeps, step, opening, Allows, Splits, Joins, Final, Seen}
 use Rattle.km_model.specs.Memory.{in_memory, index_of, word_at}
-use Rattle.km_numbered.specs.Members.{Member, Numbered, IsAlone, KnowsAll, first, fresh, gone, with_next, with_kept, with_more}
+use Rattle.km_numbered.specs.Members.{Member, IsAlone, KnowsAll, first, fresh, gone, with_next, with_kept, with_more}
 use Rattle.km_numbered.proofs.Places.{at_set}
 use Rattle.km_numbered.proofs.Keeping as keeping
 use Rattle.km_words.specs.Told.{WordStep, LoadStep, StoreStep}
 use Rattle.km_rounds.specs.Orders.{OrderStep, words_after_step, words_after, IsLegalStep, IsLegal, steps_by}
-use Rattle.km_live_words.specs.Rule.{Ordered, Loaded, Stored, address_of}
+use Rattle.km_live_words.specs.Rule.{Ordered, Loaded, Stored}
 use Rattle.km_live_words.proofs.Orders.{after_snoc, legal_snoc, length_after, steps_same, steps_else}
-use Rattle.km_live_words.proofs.Words.{address_is, index_below}
+use Rattle.km_live_words.proofs.Words.{address_is}
 
 module _ {S : Type 0} (ws : List ℕ) where
   grows : (s : State S (Member WordStep)) (id : ℕ) (v : Member WordStep) (x : WordStep) (words : List ℕ) (h : Ordered ws s) → get_elem? s.views id ≡ some v → v.spent ≡ false

@@ -1,7 +1,6 @@
 -- Orders that are one step longer, and the addresses of words.
-use Rattle.std.proofs.Common.{◌≡◌, ◌≢◌, ℕ, ◌+◌, ◌*◌, ◌-◌, ◌/◌, ◌%◌, ◌<◌, ◌≤◌, true, List, [], ◌∷◌, ◌++◌, length, slice_set, slice_index, sym, refl, ap, ◌∙◌, arith, length-set, append-nil}
-use Rattle.km_model.specs.Memory.{base, in_memory, index_of, word_at}
-use Rattle.km_numbered.specs.Members.{part}
+use Rattle.std.proofs.Common.{◌≡◌, ◌≢◌, ℕ, ◌+◌, ◌-◌, List, [], ◌∷◌, ◌++◌, length, refl, ap, ◌∙◌, length-set, append-nil}
+use Rattle.km_model.specs.Memory.{index_of}
 use Rattle.km_numbered.proofs.Parts.{part_append, part_all, part_none}
 use Rattle.km_words.specs.Told.{WordStep, LoadStep, StoreStep}
 use Rattle.km_rounds.specs.Orders.{OrderStep, words_after_step, words_after, IsLegalStep, IsLegal, steps_by}

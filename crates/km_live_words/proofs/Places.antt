@@ -1,5 +1,5 @@
 -- What the place of a hand tells.
-use Rattle.std.proofs.Common.{◌≡◌, ℕ, List, ◌∷◌}
+use Rattle.std.proofs.Common.{◌≡◌}
 use Rattle.atomic_table.specs.Seated.{TableId}
 use Rattle.km_live_words.specs.Hands.{HandOf, name_of, place_of}
 

@@ -1,5 +1,5 @@
 -- What contracts see of shared words and of a hand.
-use Rattle.std.specs.Prelude.{◌≡◌, ℕ, List, [], ◌∷◌, length, Some, None}
+use Rattle.std.specs.Prelude.{◌≡◌, ℕ, List, ◌∷◌, length, Some, None}
 use Rattle.atomic_table.specs.Seated.{TableId}
 use Rattle.km_numbered.specs.Members.{Member, KnowsAll}
 use Rattle.km_rounds.specs.Orders.{Order, IsLegal, steps_by, words_after}

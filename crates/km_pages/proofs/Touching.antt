@@ -1,11 +1,11 @@
-use Rattle.std.proofs.Common.{◌≡◌, ℕ, zero, suc, ◌+◌, ◌-◌, ◌*◌, ◌/◌, ◌<◌, ◌≤◌, Bool, true, false, ◌&&◌, ◌==◌, is_none, nat_le, nat_lt, List, [], ◌∷◌, length, Option, Some, None, option_map, if◌then◌else◌, refl, sym, ap, ◌∙◌, subst, arith, inl, inr, ltb-true, lt-ltb, le-ltb}
+use Rattle.std.proofs.Common.{◌≡◌, ℕ, zero, suc, ◌+◌, ◌-◌, ◌*◌, ◌/◌, ◌<◌, ◌≤◌, Bool, true, false, ◌&&◌, ◌==◌, is_none, nat_le, nat_lt, List, [], ◌∷◌, length, Option, Some, None, option_map, if◌then◌else◌, refl, sym, ap, ◌∙◌, subst, arith, inl, inr, le-ltb}
 use Rattle.std.specs.List.{list_any, All}
-use Rattle.std.proofs.lemmas.Bool.{cases_lt, cases_Bool, and_parts, and_from, and_right, both_ways, not-false, not_from_false, or_from, eq-eqb, eqb-true}
+use Rattle.std.proofs.lemmas.Bool.{cases_lt, cases_Bool, and_from, and_right, both_ways, not-false, not_from_false, or_from, eq-eqb, eqb-true}
 use Rattle.std.proofs.lemmas.List.{get_or_past}
 use Rattle.std.proofs.lemmas.List.Folds.{Any-from_list_any}
 use Rattle.km_model.specs.Memory.{base}
 use Rattle.km_model.specs.Placement.{Allocation, page_start, page_of, touches, is_free_page, are_free_pages, page_behind, lowest_run, run_place}
-use Rattle.km_model.proofs.Pages.{behind_end, touch, touched}
+use Rattle.km_model.proofs.Pages.{behind_end, touched}
 use Rattle.km_pages.specs.declared.runs.Run.{Run}
 use Rattle.km_pages.specs.declared.runs.Use.{Use}
 use Rattle.km_pages.specs.Runs.{run_with, run_at, length_if, is_free, are_free, lowest_free, place}

@@ -1,4 +1,4 @@
-use Rattle.std.proofs.Common.{rules, ap, sym, subst, ◌∙◌, arith, ◌≡◌, ◌≤◌, ◌+◌, length, length-append, ◌++◌, ◌∷◌, []}
+use Rattle.std.proofs.Common.{rules, ap, subst, ◌∙◌, arith, ◌≡◌, ◌≤◌, ◌+◌, length, length-append, ◌++◌, ◌∷◌, []}
 use Rattle.km_base.specs.declared.acts.Act.TheVariants.{Halt}
 use Rattle.km_core.specs.Cores.{Stands}
 use Rattle.km_model.specs.History.{History, ticks_of}

@@ -1,5 +1,4 @@
-use Rattle.std.proofs.Common.{rules, arith, refl, sym, ap, ◌∙◌}
-use Rattle.km_live_map.specs.Books.{IsCoreFor}
+use Rattle.std.proofs.Common.{rules, sym, ◌∙◌}
 use Rattle.km_live_map.proofs.Books.{newly}
 use Rattle.km_live_map.proofs.booked.Booked.new.Goals as goal
 

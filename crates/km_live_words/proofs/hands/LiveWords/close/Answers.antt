@@ -1,4 +1,4 @@
-use Rattle.std.proofs.Common.{rules, ◌≡◌, ℕ, List, ◌<◌, ◌≢◌, ◌∙◌, ◌+◌, sym, ap, subst, length, slice_set, get_or, get_or-set_other, get_or-set_same, length-set, below_more, arith, Some}
+use Rattle.std.proofs.Common.{◌≡◌, ℕ, List, ◌<◌, ◌≢◌, ◌∙◌, ◌+◌, sym, ap, subst, length, slice_set, get_or-set_other, get_or-set_same, length-set, below_more, arith}
 use Rattle.km_numbered.specs.Members.{Member}
 use Rattle.km_words.specs.Told.{WordStep}
 use Rattle.km_live_words.specs.Hands.{LeftBy}
