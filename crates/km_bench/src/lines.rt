@@ -1,8 +1,9 @@
 //! Each line of a generated script of 1,000,000 steps is read, twenty times over.
 
 use km_base::NoMemory;
-use km_edge::{Cut, Lines, StdSource};
+use km_edge::StdSource;
 use km_gen::script_of;
+use km_reader::{Next, Reader};
 use km_script::{Line, read_line};
 use std::alloc::Global;
 
@@ -12,32 +13,20 @@ const STEPS: u32 = 1_000_000;
 /// How often the script is read.
 const TIMES: u32 = 20;
 
+/// More bytes than the script has.
+const LIMIT: u64 = 100_000_000;
+
 /// The lines of a script that are commands.
 fn count(script: &[u8]) -> u64 {
     let mut source = StdSource::new(script);
-    let mut lines = Lines::new();
+    let mut reader = Reader::new(LIMIT);
     let mut commands: u64 = 0;
     for _ in 0..u32::MAX {
-        let passed = match lines.cut(false) {
-            Cut::Line(line) => {
-                if let Ok(Line::Command(_)) = read_line(line, commands == 0) {
-                    commands = commands.saturating_add(1);
-                }
-                Some(line.len())
-            }
-            Cut::Long => return commands,
-            Cut::More => None,
-        };
-        match passed {
-            Some(line) => lines.pass(line),
-            None => {
-                let Ok(n) = lines.fill(&mut source, 4096) else {
-                    return commands;
-                };
-                if n == 0 {
-                    return commands;
-                }
-            }
+        if reader.next(&mut source) != Next::Line {
+            return commands;
+        }
+        if let Ok(Line::Command(_)) = read_line(reader.line(), commands == 0) {
+            commands = commands.saturating_add(1);
         }
     }
     commands

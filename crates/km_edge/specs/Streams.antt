@@ -39,8 +39,14 @@ Reads s s' buffer result =
     (λ n. (n ≤ length buffer) × Consumes s.left s'.left (take n buffer) × (n ≡ 0 → IsAtEnd s'.left))
     (λ _. Keeps s.left s'.left × Rose s.faults s'.faults)
 
--- these bytes were written, in any number of writes
+-- these bytes were written, in any number of writes, none of which failed
 pub record Wrote (s s' : SinkState) (bytes : List ℕ) : Type 0 where
+  pub appended : Appends s.held s'.held bytes
+  pub counted : Counts s.count s'.count (length bytes)
+  pub faults_kept : s'.faults ≡ s.faults
+
+-- these bytes came out, whether or not a write failed after them
+pub record CameOut (s s' : SinkState) (bytes : List ℕ) : Type 0 where
   pub appended : Appends s.held s'.held bytes
   pub counted : Counts s.count s'.count (length bytes)
   pub faults_kept : s.faults ≤ s'.faults
@@ -52,10 +58,10 @@ Writes s s' piece result =
     (λ n. (1 ≤ n) × (n ≤ length piece) × Appends s.held s'.held (take n piece) × Counts s.count s'.count n)
     (λ _. Keeps s.held s'.held × Counts s.count s'.count 0 × Rose s.faults s'.faults)
 
--- the first n of these bytes were written, and then a write failed
+-- the first n of these bytes came out, and then a write failed
 pub record StoppedAt (s s' : SinkState) (bytes : List ℕ) (n : ℕ) : Type 0 where
   pub within : n ≤ length bytes
-  pub wrote : Wrote s s' (take n bytes)
+  pub came_out : CameOut s s' (take n bytes)
   pub rose : Rose s.faults s'.faults
 
 -- a write of all of these bytes

@@ -1,6 +1,6 @@
 //! The buffer that cuts a script into lines.
 
-ghost use Rattle.std.specs.Prelude.{◌≡◌, ◌≤◌, ◌<◌, ◌-◌, length, min, take, drop, position, MatchResult, IfSome};
+ghost use Rattle.std.specs.Prelude.{◌≡◌, ◌≤◌, ◌<◌, ◌-◌, length, min, take, drop, position, MatchResult, IfOk, IfSome};
 ghost use Rattle.std.specs.Io.KnownBytes.{Keeps, Consumes, IsAtEnd};
 ghost use Rattle.km_edge.specs.Streams.{Rose};
 ghost use Rattle.km_edge.specs.Lines.{is_line_feed, next_at, seen};
@@ -55,7 +55,7 @@ impl Lines {
     }
 
     /// The bytes that are held.
-    fn held(&self) -> &[u8]
+    pub fn held(&self) -> &[u8]
         ensures held { result.now ≡ self.now }
         ensures room { length result.now ≤ 4096 }
     {
@@ -95,13 +95,15 @@ impl Lines {
         self.end -= 1;
     }
 
-    /// Makes one read of at most `most` bytes, and of no more than there is room for, and gives their number.
+    /// Makes one read of `most` bytes, or of as many as there is room for, and gives the number of those that came.
     pub fn fill<S: Source>(&mut self, source: &mut S, most: usize) -> Result<usize, Failed>
         requires some { 1 ≤ most }
         requires more { next_of false self.old ≡ Unknown }
         ensures fills { Fills self.old self.new (S.state source.old) (S.state source.new) result }
         ensures most { IfOk result (λ n. n ≤ min most (4096 - length self.old)) }
+        ensures asked { S.asked source.old source.new (min most (4096 - length self.old)) }
         ensures faults { (S.state source.old).faults ≤ (S.state source.new).faults }
+        ensures kept { IfOk result (λ _. (S.state source.new).faults ≡ (S.state source.old).faults) }
     {
         self.bytes.copy_within(self.start..self.end, 0);
         self.end -= self.start;
@@ -132,7 +134,7 @@ fn cut_at(held: &[u8], feed: Option<usize>, ended: bool) -> Cut<'_>
     }
 }
 
-/// Makes one read of at most `most` bytes behind the first `end`.
+/// Makes one read of `most` bytes, or of as many as there are, after the first `end`.
 fn read_behind<S: Source>(
     source: &mut S,
     bytes: &mut [u8],
@@ -145,7 +147,9 @@ fn read_behind<S: Source>(
     ensures reads { MatchResult result
         (λ n. (n ≤ min most (length bytes.old - end)) × Consumes (S.state source.old).left (S.state source.new).left (take n (drop end bytes.new)) × (n ≡ 0 → IsAtEnd (S.state source.new).left))
         (λ _. Keeps (S.state source.old).left (S.state source.new).left × Rose (S.state source.old).faults (S.state source.new).faults) }
+    ensures asked { S.asked source.old source.new (min most (length bytes.old - end)) }
     ensures faults { (S.state source.old).faults ≤ (S.state source.new).faults }
+    ensures kept { IfOk result (λ _. (S.state source.new).faults ≡ (S.state source.old).faults) }
 {
     let room = most.min(bytes.len() - end);
     source.read(&mut bytes[end..end + room])

@@ -85,12 +85,15 @@ impl Source for MemSource {
 
     ghost state = { source_state };
 
+    ghost asked = { λ s s' size. s' ≡ after_read s size };
+
     fn read(&mut self, buf: &mut [u8]) -> Result<usize, Failed>
         requires { 0 < length buf.old }
         ensures reads { Reads (source_state self.old) (source_state self.new) buf.new result }
+        ensures asked { self.new ≡ after_read self.old (length buf.old) }
         ensures faults { self.old.faults ≤ self.new.faults }
+        ensures kept { IfOk result (λ _. self.new.faults ≡ self.old.faults) }
         ensures result { result ≡ read_of self.old (length buf.old) }
-        ensures after { self.new ≡ after_read self.old (length buf.old) }
     {
         self.calls = raised(self.calls);
         if is_among(self.calls, self.fail.as_slice()) {
@@ -175,6 +178,7 @@ impl Sink for MemSink {
         requires { 0 < length piece.now }
         ensures writes { Writes (sink_state self.old) (sink_state self.new) piece.now result }
         ensures faults { self.old.faults ≤ self.new.faults }
+        ensures kept { IfOk result (λ _. self.new.faults ≡ self.old.faults) }
         ensures result { result ≡ write_of self.old (length piece.now) }
         ensures after { self.new ≡ after_write self.old piece.now }
     {
@@ -230,6 +234,7 @@ impl Sink for CountSink {
         requires { 0 < length piece.now }
         ensures writes { Writes (count_state self.old) (count_state self.new) piece.now result }
         ensures faults { 0 ≤ 0 }
+        ensures kept { IfOk result (λ _. (count_state self.new).faults ≡ (count_state self.old).faults) }
         ensures result { result ≡ Ok (length piece.now) }
         ensures after { self.new ≡ min (self.old + length piece.now) greatest }
     {

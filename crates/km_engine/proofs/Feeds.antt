@@ -6,8 +6,8 @@ use Rattle.km_edge.specs.Lines.{is_line_feed}
 use Rattle.km_model.specs.Output.{all_but_last, between_line_feeds, is_empty, limit, lines_of, put_in_first}
 use Rattle.km_model.specs.Text.{as_text_line}
 use Rattle.km_gen.specs.Generated.{generated_script, opening_lines, closing_lines, steps_text}
-use Rattle.km_forms.specs.Lines.{lines_in}
-use Rattle.km_forms.proofs.Limits.{within_limit}
+use Rattle.km_reader.specs.Lines.{lines_in}
+use Rattle.km_reader.proofs.Lists.{within_limit}
 
 -- pieces the last of which is empty, with as many others as are counted
 abbrev Fed : List (List ℕ) → ℕ → Type 0
@@ -55,4 +55,4 @@ script_lines number steps script e few short =
     let size : length (generated_script number steps) ≤ limit = omega (arith, ap length e, few, short) in
     let fed = script_is_fed number steps in
     ap (count_by is_line_feed) (e ∙ fed) ∙ sym (lines_are_fed (opening_lines ++ (steps_text steps number ++ closing)))
-    ∙ ap (λ x. length (lines_in is_empty x)) (sym fed) ∙ ap length (sym (within_limit (generated_script number steps) size).0)
+    ∙ ap (λ x. length (lines_in is_empty x)) (sym fed) ∙ ap length (sym (within_limit (generated_script number steps) limit size))

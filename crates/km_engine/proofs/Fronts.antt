@@ -4,8 +4,8 @@ use Rattle.std.proofs.lemmas.List.{append-nil}
 use Rattle.km_model.specs.Grammar.{line_of}
 use Rattle.km_model.specs.Output.{Script, LineThen, Prints, is_fresh}
 use Rattle.km_model.proofs.OutputLaws.{prints_once}
-use Rattle.km_forms.specs.Lines.{IsPrefix}
-use Rattle.km_engine.proofs.Stopping.{prints_one}
+use Rattle.km_reader.specs.Lines.{IsPrefix}
+use Rattle.km_engine.proofs.Running.{prints_one}
 
 pub prefix_trans : (a b c : List ℕ) → IsPrefix a b → IsPrefix b c → IsPrefix a c
 prefix_trans a b c p q = (p.0 ++ q.0, q.1 ∙ ap (λ x. x ++ q.0) p.1 ∙ append_assoc a p.0 q.0)

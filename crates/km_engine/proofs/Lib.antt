@@ -4,10 +4,7 @@ pub mod Totals
 pub mod Running
 pub mod Rooms
 pub mod Lines
-pub mod Stopping
 pub mod Fronts
-pub mod Buffers
-pub mod Rests
 pub mod Endings
 pub mod Runs
 pub mod Feeds

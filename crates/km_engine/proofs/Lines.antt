@@ -7,14 +7,15 @@ use Rattle.km_base.specs.declared.lines.Command.{Command}
 use Rattle.km_base.specs.declared.lines.Command.TheVariants.{Memory}
 use Rattle.km_base.specs.declared.lines.Line.{Line}
 use Rattle.km_base.specs.declared.lines.Line.TheVariants as line
+use Rattle.km_base.specs.declared.status.Status.{Status}
 use Rattle.km_base.specs.declared.status.Status.TheVariants as status
 use Rattle.km_model.specs.Follows.{Run, first_run}
 use Rattle.km_model.specs.Output.{Script, Fresh, Begun, LeadsLine, is_fresh, line_text}
 use Rattle.km_machine.specs.declared.machine.Machine.{Machine}
 use Rattle.km_machine.specs.Machines.{For}
 use Rattle.km_machine.specs.Machines.{RunsLine as MachineRuns}
-use Rattle.km_engine.specs.Session.{HasLed}
-use Rattle.km_engine.specs.Steps.{RanOn, EndsRun}
+use Rattle.km_engine.specs.Session.{HasLed, Place, Session}
+use Rattle.km_engine.specs.Steps.{EndsRun, RanOn, StaysLed}
 
 -- there is a machine where a script has begun
 pub fresh_as : (machine : Option Machine) (m : Script) → HasLed machine m → is_none machine ≡ is_fresh m
@@ -60,3 +61,13 @@ pub later_ends : (machine next : Machine) (m : Script) (c : Command) (k k' : Sin
 later_ends machine next Fresh c k k' failed led runs = absurd led
 later_ends machine next (Begun run) c k k' failed led runs =
     let ran = runs run led in (Begun ran.behind, line_text run c ran.behind, ran.wrote.0, (ran.behind, ran.makes, refl, refl), ran.wrote.1)
+
+-- a machine that stands for some lines does so whatever ends the run
+pub stays_led : (s : Session) (p : Place) (ended : Status) → HasLed s.machine p.script → StaysLed s p ended
+stays_led s p (status.NotACommand _ _) led = led
+stays_led s p status.Ok led = tt
+stays_led s p status.ReadFault led = tt
+stays_led s p status.WriteFault led = tt
+stays_led s p status.NoMemory led = tt
+stays_led s p (status.BadWords _) led = tt
+stays_led s p status.TooLong led = tt

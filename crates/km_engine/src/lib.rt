@@ -2,7 +2,6 @@
 #![tactic(auto)]
 
 mod bench;
-mod buffer;
 mod held;
 mod listed;
 mod program;

@@ -1,6 +1,4 @@
-pub mod LineLists
 pub mod Limits
-pub mod Sources
 pub mod Counting
-pub mod Scripts
+pub mod Going
 pub mod Checked

@@ -1,7 +1,8 @@
 //! Reads a script and runs nothing.
 
-ghost use Rattle.km_forms.specs.Checks.{ChecksScript, WritesCount, WritesEnd};
+ghost use Rattle.km_forms.specs.Checks.{WritesCount, WritesEnd, checked};
 ghost use Rattle.km_forms.specs.Lines.{Refuses};
+ghost use Rattle.km_reader.specs.Causes.{EndsFrom};
 
 use crate::count::count_script;
 use km_base::Status;
@@ -44,7 +45,7 @@ fn write_end<K: Sink>(ended: Status, sink: &mut K) -> Status
 
 /// Reads a script, runs nothing, and writes the number of its commands, or the text of its first line that is none.
 pub fn check<S: Source, K: Sink>(source: &mut S, sink: &mut K) -> Status
-    ensures { ChecksScript (S.state source.old) (S.state source.new) (K.state sink.old) (K.state sink.new) result }
+    ensures { EndsFrom checked (S.state source.old) (S.state source.new) (K.state sink.old) (K.state sink.new) result }
 {
     match count_script(source) {
         Ok(commands) => write_count(commands, sink),

@@ -6,8 +6,8 @@ use Rattle.std.proofs.lemmas.List.{take-append-le, take-append-drop, take_more, 
 use Rattle.std.proofs.lemmas.Grind.{flat_map-append}
 use Rattle.std.proofs.Math.Seq.{take-append-add}
 use Rattle.km_edge.specs.declared.errors.Failed.{Failed}
-use Rattle.km_edge.specs.Streams.{SinkState, StoppedAt, WritesAll, Wrote}
-use Rattle.km_edge.proofs.Writing.{rose_later, wrote_more}
+use Rattle.km_edge.specs.Streams.{CameOut, SinkState, StoppedAt, WritesAll, Wrote}
+use Rattle.km_edge.proofs.Writing.{came_out_more, rose_later, wrote_more}
 
 -- a fault in these bytes
 abbrev pub Stops : SinkState → SinkState → List ℕ → Type 0
@@ -23,7 +23,7 @@ stops_early a b piece rest (n, s) = (
   n,
   record {
     within = (let i = s.within in omega (arith, i, length-append piece rest));
-    wrote = subst (λ xs. Wrote a b xs) (sym (take-append-le n piece rest s.within)) s.wrote;
+    came_out = subst (λ xs. CameOut a b xs) (sym (take-append-le n piece rest s.within)) s.came_out;
     rose = s.rose;
   },
 )
@@ -34,8 +34,8 @@ stops_behind a b c done piece w (n, s) = (
   length done + n,
   record {
     within = (let i = s.within in omega (arith, i, length-append done piece));
-    wrote = subst (λ xs. Wrote a c xs) (sym (take-append-add done piece n)) (wrote_more a b c done (take n piece) w s.wrote);
-    rose = rose_later a.faults b.faults c.faults w.faults_kept s.wrote.faults_kept s.rose;
+    came_out = subst (λ xs. CameOut a c xs) (sym (take-append-add done piece n)) (came_out_more a b c done (take n piece) w s.came_out);
+    rose = rose_later a.faults b.faults c.faults (omega (arith, w.faults_kept)) s.came_out.faults_kept s.rose;
   },
 )
 

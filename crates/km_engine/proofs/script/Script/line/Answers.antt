@@ -7,8 +7,7 @@ use Rattle.km_engine.specs.Session.{HasLed, HasRoomToRun, SpendsOn}
 use Rattle.km_forms.specs.Lines.{Refuses}
 use Rattle.km_engine.specs.Steps.{EndsAt, IsFitLine}
 use Rattle.km_engine.proofs.Fit.{read_is_fit}
-use Rattle.km_engine.proofs.Lines.{fresh_as}
-use Rattle.km_engine.proofs.Buffers.{stays_led}
+use Rattle.km_engine.proofs.Lines.{fresh_as, stays_led}
 use Rattle.km_engine.proofs.Rooms.{less_room, room_to_run, line_takes}
 use Rattle.km_engine.proofs.script.Script.line.Goals as goal
 

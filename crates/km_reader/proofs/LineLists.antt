@@ -7,7 +7,7 @@ use Rattle.std.proofs.lemmas.List.{get_or-take, length-take, take_all}
 use Rattle.km_model.specs.Output.{between_line_feeds, put_in_first, all_but_last}
 use Rattle.km_edge.specs.Lines.{Whole, TooLong, Unknown, is_line_feed, next_at, next_of}
 use Rattle.km_edge.specs.Lines.{is_empty as holds_none}
-use Rattle.km_forms.specs.Lines.{lines_in}
+use Rattle.km_reader.specs.Lines.{lines_in}
 
 -- no byte is a line feed
 pub data NoFeed : List ℕ → Type 0 where
@@ -130,7 +130,7 @@ pub held_more : (held : List ℕ) → next_of false held ≡ Unknown
     → NoFeed held × (length held ≤ 256) × (next_of true held ≡ (if not (holds_none held) then Whole held else Unknown))
 held_more held w = more_at held (position is_line_feed (take 257 held)) refl w
 
--- a line comes before the lines behind it
+-- a line comes before the lines after it
 keep_line : (dropped : List ℕ → Bool) (l : List ℕ) (ls : List (List ℕ)) → ((m : List ℕ) × (qs : List (List ℕ)) × (ls ≡ m ∷ qs))
     → all_but_last dropped (l ∷ ls) ≡ l ∷ all_but_last dropped ls
 keep_line dropped l ls s = subst (λ x. all_but_last dropped (l ∷ x) ≡ l ∷ all_but_last dropped x) (sym s.2) refl
