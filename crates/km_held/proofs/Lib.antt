@@ -1,0 +1,6 @@
+mod Support
+pub mod Grown
+mod Certain
+mod Quiet
+pub mod Prefixes
+mod Confirmed
