@@ -99,9 +99,6 @@ left_stays h act given e same =
     let f = loads_go_on (past_of h) act given e in
     omega (arith, k, f)
 
-loaded_is : (past : Past) (value : ℕ) (place : Place) → next past ≡ Some place → load_of past Step (Loaded place.word value) ≡ Some (scan_load past place value)
-loaded_is past value place e = ap (λ o. elim o as (λ _. Option ScanLoad) [ None ↦ None | Some p ↦ Some (scan_load past p value) ]) e
-
 -- a load of a scan lowers it
 loaded_falls : (past : Past) (a value : ℕ) (o : Option Place) → next past ≡ o → is_loaded (elim o as (λ _. Answer) [ None ↦ Ended (scans past) (length (new_blocks past)) | Some place ↦ Loaded place.word value ]) ≡ true
     → Fits (at_begin past) (loads past) (world past)

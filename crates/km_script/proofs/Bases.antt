@@ -29,9 +29,6 @@ no_number c (d ∷ ds) e = rw ((no_digit c e).1, (no_digit c e).0) refl
 pub no_name : (c : ℕ) (cs : List ℕ) → is_letter c ≡ false → name_of (c ∷ cs) ≡ None
 no_name c cs e = rw e refl
 
-digit_is : (c : ℕ) → is_digit c ≡ true → (is_letter c ≡ false) × ((c == 46) ≡ false)
-digit_is c e = grind arith
-
 dot_is : (c : ℕ) → (c == 46) ≡ true → (is_letter c ≡ false) × (is_digit c ≡ false)
 dot_is c e = grind arith
 

@@ -1,4 +1,4 @@
-use Rattle.std.proofs.Common.{◌≡◌, ℕ, ◌+◌, ◌<◌, Bool, true, false, ◌||◌, List, [], ◌∷◌, ◌++◌, length, cond, Option, Some, None, option_map, if◌then◌else◌, refl, sym, ap, ◌∙◌, subst, arith}
+use Rattle.std.proofs.Common.{◌≡◌, ℕ, ◌+◌, ◌<◌, Bool, true, false, ◌||◌, List, [], ◌∷◌, ◌++◌, length, cond, Option, Some, option_map, if◌then◌else◌, refl, sym, ap, ◌∙◌, subst, arith}
 use Rattle.std.specs.Prelude.{find}
 use Rattle.std.specs.List.{list_any}
 use Rattle.std.proofs.lemmas.List.{append_assoc}
@@ -92,13 +92,6 @@ pub look_finds : (id : RecId) (live : List Live) (high : ℕ) (next : Option Rec
 look_finds id live high next i w r e listed =
     let s = looks_at id live high next i w r e in
     ap Some s.its ∙ sym (listed_cons s.it s.more true (sym (listed s.it s.found))) ∙ ap listed_in (sym s.there) ∙ w.same
-
-pub look_ends : (id : RecId) (live : List Live) (next : Option RecId) (w : Looking id live next) → next ≡ None → None ≡ listed_in (behind id live)
-look_ends id live next w e = on w.rest (sym e ∙ w.at) ∙ w.same
-  where
-    on : (rest : List Live) → None ≡ option_map id_of (first_live rest) → None ≡ listed_in rest
-    on [] h = refl
-    on (l ∷ rest) h = absurd (let z : ⊥ = cc in z)
 
 -- the first listed block of all
 pub first_is : (live : List Live) (l : Live) → first_live live ≡ Some l → is_listed_now l.tracked ≡ true → Some (id_of l) ≡ listed_in live
