@@ -26,3 +26,6 @@ pub const LONGEST_LINE: usize = 256;
 
 /// The column of the first byte that a line has no room for.
 pub const TOO_LONG: u32 = 257;
+
+/// The most scanner steps that one line makes, and the most that a generated script has.
+pub const MOST_STEPS: u64 = 1_000_000;

@@ -1,6 +1,7 @@
 -- How the buffer of a script is cut into lines.
 use Rattle.std.specs.Prelude.{◌≡◌, ℕ, ◌+◌, Bool, true, false, ◌&&◌, not, nat_le, ◌==◌, List, [], ◌∷◌, length, take, drop, position, Option, Some, None, Result, MatchResult, if◌then◌else◌}
 use Rattle.std.specs.Io.KnownBytes.{Keeps, Consumes, IsAtEnd}
+use Rattle.km_base.specs.declared.sizes.TheConstants.{LONGEST_LINE}
 use Rattle.km_edge.specs.declared.errors.Failed.{Failed}
 use Rattle.km_edge.specs.declared.lines.Cut.{Cut}
 use Rattle.km_edge.specs.declared.lines.Cut.TheVariants.{Line, Long, More}
@@ -24,7 +25,7 @@ is_empty (_ ∷ _) = false
 -- where no line feed is among the first 257 bytes: too long a line, a rest that ends the input, or too little to tell
 abbrev pub without_feed : Bool → List ℕ → Next
 without_feed ended held =
-    if nat_le 257 (length held) then TooLong else (if ended && not (is_empty held) then Whole held else Unknown)
+    if nat_le (LONGEST_LINE + 1) (length held) then TooLong else (if ended && not (is_empty held) then Whole held else Unknown)
 
 -- what comes next, by the place of the first line feed
 abbrev pub next_at : Option ℕ → Bool → List ℕ → Next
@@ -33,7 +34,7 @@ next_at None ended held = without_feed ended held
 
 -- what comes next; `ended` says that nothing comes behind these bytes
 abbrev pub next_of : Bool → List ℕ → Next
-next_of ended held = next_at (position is_line_feed (take 257 held)) ended held
+next_of ended held = next_at (position is_line_feed (take (LONGEST_LINE + 1) held)) ended held
 
 -- what a cut says
 abbrev pub seen : Cut → Next

@@ -5,9 +5,7 @@ ghost use Rattle.km_forms.specs.Forms.{HasFewSteps, bench_form, form_of_words, n
 ghost use Rattle.km_model.specs.Grammar.{number as number_of_word, number_within};
 
 use km_base::read_number;
-
-/// The most steps of a generated script.
-const MOST_STEPS: u64 = 1_000_000;
+use km_base::sizes::MOST_STEPS;
 
 /// What the words ask for.
 #[derive(Clone, Copy, Debug, PartialEq)]

@@ -1,5 +1,6 @@
 -- What the hosts of a memory are seen as, and which live allocations they hold.
 use Rattle.std.specs.Prelude.{◌≡◌, ℕ, ◌*◌, ◌||◌, nat_lt, List, [], ◌∷◌, ◌++◌, length, Option, Result, Ok, Err}
+use Rattle.km_base.specs.declared.sizes.TheConstants.{PAGE_WORDS}
 use Rattle.km_base.specs.declared.spans.Addr.{Addr}
 use Rattle.km_base.specs.declared.spans.Span.{Span}
 use Rattle.km_base.specs.declared.acts.Answer.{Answer}
@@ -45,7 +46,7 @@ StartsDiffer used = Pairs (λ (x y : Allocation). x.start ≡ y.start → ⊥) u
 
 -- the words of the memory
 abbrev pub words_in : Hosting → ℕ
-words_in v = 512 * length v.pages
+words_in v = PAGE_WORDS * length v.pages
 
 -- the allocations with one more
 abbrev pub with_use : List Allocation → Use → ℕ → ℕ → List Allocation

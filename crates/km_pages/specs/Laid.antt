@@ -1,5 +1,6 @@
 use Rattle.std.specs.Prelude.{◌≡◌, ℕ, ◌+◌, ◌*◌, ◌<◌, ◌≤◌, true, false, List, Option, Some, ◌⊎◌}
 use Rattle.std.specs.List.{All, AllPairs}
+use Rattle.km_base.specs.declared.sizes.TheConstants.{PAGE}
 use Rattle.km_pages.specs.declared.runs.Use.{Use}
 use Rattle.km_pages.specs.declared.runs.Run.{Run}
 use Rattle.km_pages.specs.Uses.{use_of}
@@ -12,7 +13,7 @@ pub record IsIn (run : Run) (x : Allocation) : Type 0 where
   pub low : page_start run.first ≤ x.start
   pub high : x.start + x.size ≤ page_start (run.first + run.len)
   pub some : 0 < x.size
-  pub whole : is_slab_block x ≡ false → (x.start ≡ page_start run.first) × (x.size ≡ 4096 * run.len)
+  pub whole : is_slab_block x ≡ false → (x.start ≡ page_start run.first) × (x.size ≡ PAGE * run.len)
 
 -- all pages of a run are that run's
 abbrev pub HasRun : List (Option Run) → Run → Type 0
@@ -33,15 +34,15 @@ pub record AreLaid (pages : List (Option Run)) (used : List Allocation) : Type 0
 pub record Fills (kind : Use) (n a : ℕ) (x : Allocation) : Type 0 where
   pub its_use : kind ≡ use_of x.«use»
   pub start : x.start ≡ a
-  pub long : 4096 * n < x.size + 4096
-  pub fits : x.size ≤ 4096 * n
-  pub whole : is_slab_block x ≡ false → x.size ≡ 4096 * n
+  pub long : PAGE * n < x.size + PAGE
+  pub fits : x.size ≤ PAGE * n
+  pub whole : is_slab_block x ≡ false → x.size ≡ PAGE * n
 
 -- those of these allocations that lie in `n` pages from an address on all begin at one address there
 pub record BeginAt (used : List Allocation) (n a b : ℕ) : Type 0 where
   pub low : a ≤ b
-  pub high : b < a + 4096 * n
-  pub alone : All (λ (x : Allocation). a ≤ x.start → x.start < a + 4096 * n → x.start ≡ b) used
+  pub high : b < a + PAGE * n
+  pub alone : All (λ (x : Allocation). a ≤ x.start → x.start < a + PAGE * n → x.start ≡ b) used
 
 -- two allocations have no byte in common
 abbrev pub IsBeside : Allocation → Allocation → Type 0

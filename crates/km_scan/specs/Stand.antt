@@ -1,6 +1,7 @@
 -- What a scanner is seen as, and how it agrees with a tracker and tasks.
 use Rattle.std.specs.Prelude.{◌≡◌, ℕ, ◌+◌, ◌*◌, ◌/◌, ◌^◌, ◌<◌, ◌≤◌, Bool, true, false, nat_lt, ◌==◌, List, map, filter, Option, Some, None, if◌then◌else◌}
 use Rattle.std.specs.List.{All}
+use Rattle.km_base.specs.declared.sizes.TheConstants.{PAGE, PAGE_WORDS}
 use Rattle.km_record.specs.declared.kinds.RecId.{RecId}
 use Rattle.km_links.specs.Chains.{is_in}
 use Rattle.km_model.specs.Blocks.{Block, option_is}
@@ -72,7 +73,7 @@ EachWordPasses test b = (8 ≤ b.size) × ((a : ℕ) → IsWordOf b a → test a
 
 -- and so does each word of the stack of a task
 abbrev pub EachStackWordPasses : (ℕ → Bool) → Task → Type 0
-EachStackWordPasses test t = (i : ℕ) → i < 512 → test (t.stack + 8 * i) ≡ true
+EachStackWordPasses test t = (i : ℕ) → i < PAGE_WORDS → test (t.stack + 8 * i) ≡ true
 
 -- what a place in a pass asks of its block: a holder of a grey pass isn't white, and no longer queued
 abbrev pub IsHeldIn : Pass → Live → Tracker → Type 0
@@ -81,11 +82,11 @@ IsHeldIn _ l t = (is_white_now l.tracked ≡ false) × (is_in l.tracked.block.id
 
 -- where a task has a number, an address is that of a word of its stack
 abbrev pub IsStackWord : ℕ → ℕ → Task → Type 0
-IsStackWord task a u = u.number ≡ task → (i : ℕ) × (i < 512) × (a ≡ u.stack + 8 * i)
+IsStackWord task a u = u.number ≡ task → (i : ℕ) × (i < PAGE_WORDS) × (a ≡ u.stack + 8 * i)
 
 -- the stack of a task ends below the greatest address
 abbrev pub StackEnds : Task → Type 0
-StackEnds u = u.stack + 4096 < 2 ^ 64
+StackEnds u = u.stack + PAGE < 2 ^ 64
 
 -- a place agrees with what is live: a block is there, and the place is one of its words; a stack is scanned, its task
 -- was started, and where that lives, the place is one of its words

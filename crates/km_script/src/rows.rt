@@ -7,13 +7,11 @@ ghost use Rattle.km_base.specs.declared.lines.Command.TheVariants as command;
 
 use crate::file::file_command_behind;
 use crate::words::Words;
+use km_base::sizes::MOST_STEPS;
 use km_base::{Base, Command, NotACommand, Operand};
 
 /// The longest time that a line lets pass, in milliseconds.
 const LONGEST_TICK: u64 = 3_600_000;
-
-/// The most steps that a line makes.
-const MOST_STEPS: u64 = 1_000_000;
 
 /// `memory W`
 pub fn memory(words: &mut Words) -> Result<Command, NotACommand>

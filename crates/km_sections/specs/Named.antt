@@ -1,4 +1,5 @@
 use Rattle.std.specs.Prelude.{◌≡◌, ℕ, ◌*◌, ◌==◌, List, filter, Option, Some, None, Result, Ok, Err}
+use Rattle.km_base.specs.declared.sizes.TheConstants.{PAGE}
 use Rattle.km_base.specs.declared.spans.Span.{Span}
 use Rattle.km_base.specs.declared.acts.Answer.{Answer}
 use Rattle.km_base.specs.declared.acts.Answer.TheVariants.{Done, Refused}
@@ -11,7 +12,7 @@ use Rattle.km_sections.specs.declared.errors.SectionFault.TheVariants as fault
 
 -- a section of so many words takes whole pages
 abbrev pub section : List ℕ → ℕ → ℕ → Allocation
-section name words start = record { «use» = SectionRun name; start = start; size = 4096 * pages_for (8 * words) }
+section name words start = record { «use» = SectionRun name; start = start; size = PAGE * pages_for (8 * words) }
 
 -- the answer to a section of a name and so many words, among these allocations, by its place if there is room
 abbrev pub section_answer : List Allocation → List ℕ → ℕ → Option ℕ → Answer

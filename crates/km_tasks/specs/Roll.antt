@@ -1,5 +1,6 @@
 use Rattle.std.specs.Prelude.{◌≡◌, ℕ, ◌+◌, ◌==◌, List, [], ◌∷◌, ◌++◌, length, replicate, find, nat_lt, Option, Some, None, is_some, Result, Ok, Err}
 use Rattle.std.specs.List.{All, AllPairs}
+use Rattle.km_base.specs.declared.sizes.TheConstants.{PAGE}
 use Rattle.km_base.specs.declared.acts.Answer.{Answer}
 use Rattle.km_base.specs.declared.acts.Answer.TheVariants.{Done, Refused}
 use Rattle.km_base.specs.declared.acts.Refusal.TheVariants as refusal
@@ -35,7 +36,7 @@ with_value roll name reg value = record { started = roll.started; tasks = with_r
 
 -- the stack of a task
 abbrev pub stack_page : ℕ → Allocation
-stack_page start = record { «use» = StackPage; start = start; size = 4096 }
+stack_page start = record { «use» = StackPage; start = start; size = PAGE }
 
 -- the first of the live tasks whose number is above this one
 abbrev pub task_after : List Task → ℕ → Option Task

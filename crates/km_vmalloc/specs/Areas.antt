@@ -1,5 +1,6 @@
 use Rattle.std.specs.Prelude.{◌≡◌, ℕ, ◌+◌, ◌*◌, ◌≤◌, Bool, true, false, ◌==◌, List, [], ◌∷◌, ◌++◌, length, slice_index_or, Option, Some, None, Result, Ok, Err, ◌⊎◌, if◌then◌else◌}
 use Rattle.std.specs.List.{All, list_any}
+use Rattle.km_base.specs.declared.sizes.TheConstants.{PAGE, VMAP_SLOTS}
 use Rattle.km_base.specs.declared.spans.Span.{Span}
 use Rattle.km_base.specs.declared.acts.Answer.{Answer}
 use Rattle.km_base.specs.declared.acts.Answer.TheVariants.{At, Refused}
@@ -21,7 +22,7 @@ area_at areas s = slice_index_or areas s None
 
 -- there are 512 slots, and each live area has its own
 pub record AreKept (areas : List (Option VmArea)) : Type 0 where
-  pub count : length areas ≡ 512
+  pub count : length areas ≡ VMAP_SLOTS
   pub slots : (s : ℕ) (v : VmArea) → area_at areas s ≡ Some v → v.slot ≡ s
 
 -- a head and an area as allocations
@@ -83,7 +84,7 @@ pub record AreAreas (areas : List (Option VmArea)) (used : List Allocation) : Ty
 pub record IsRun (pages : List (Option Run)) (v : VmArea) : Type 0 where
   pub count : ℕ
   pub run : run_at pages Vmalloc v.area.start.0 ≡ Some count
-  pub size : v.area.size ≡ 4096 * count
+  pub size : v.area.size ≡ PAGE * count
 
 -- a live area begins with a page
 pub record HasArea (areas : List (Option VmArea)) (p : ℕ) : Type 0 where
@@ -106,7 +107,7 @@ pub record Fits (areas : List (Option VmArea)) (slab : Sheets) (pages : List (Op
 abbrev pub vmalloc_answer : ℕ → List Allocation → ℕ → Answer
 vmalloc_answer words used size =
     unless (is_bad_size 1048576 size) refusal.BadSize
-    (unless (lowest_slot used == 512) refusal.NoSlot (at_place (area_place words used size)))
+    (unless (lowest_slot used == VMAP_SLOTS) refusal.NoSlot (at_place (area_place words used size)))
 
 -- a result as an answer
 abbrev pub answer_of : Result VmArea VmFault → Answer
@@ -118,7 +119,7 @@ answer_of (Err fault.NoRoom) = Refused refusal.NoRoom
 -- a head and the pages of an area were taken
 pub record IsPlaced (pages : List (Option Run)) (slab : Sheets) (new_pages : List (Option Run)) (new_slab : Sheets) (size : ℕ) (head area : Span) : Type 0 where
   pub head_size : head.size ≡ 64
-  pub area_size : area.size ≡ 4096 * pages_for size
+  pub area_size : area.size ≡ PAGE * pages_for size
   pub gains : Gains slab new_slab 64 head.start.0
   pub fresh : run_at pages Vmalloc area.start.0 ≡ None
   pub run : run_at new_pages Vmalloc area.start.0 ≡ Some (pages_for size)
