@@ -1,5 +1,5 @@
 -- Acts of the file, of time and of the scanner.
-use Rattle.std.proofs.Common.{◌≡◌, ℕ, ◌+◌, ◌*◌, ◌<◌, ◌≤◌, ◌^◌, ◌==◌, Bool, true, false, not, is_some, List, [], ◌∷◌, Option, Some, None, option_map, if◌then◌else◌, refl, sym, ap, ◌∙◌, subst, arith}
+use Rattle.std.proofs.Common.{◌≡◌, ℕ, ◌+◌, ◌*◌, ◌<◌, ◌≤◌, ◌^◌, ◌==◌, Bool, true, false, not, is_some, List, [], ◌∷◌, Option, Some, None, Ok, Err, option_map, if◌then◌else◌, refl, sym, ap, ◌∙◌, subst, arith}
 use Rattle.std.specs.List.{All}
 use Rattle.std.proofs.lemmas.List.Elements.{All-cons}
 use Rattle.km_base.specs.declared.acts.Act.{Act}
@@ -37,23 +37,23 @@ use Rattle.km_objects.specs.Objects.{Agree, AreOf, IfLoaded, Objects, all_droppe
 use Rattle.km_core.specs.declared.settings.Settings.{Settings}
 use Rattle.km_core.specs.Parts.{Answers, HostsStand, IsReady, IsWhole, Parts, StandsAs, Touches, set_in}
 use Rattle.km_objects.proofs.Changes.{is_found}
-use Rattle.km_core.specs.Kernels.{done_if, is_setting, word_refused}
+use Rattle.km_core.specs.Kernels.{done_if, heeded, is_setting}
 use Rattle.km_core.proofs.Marks.{counted, quiet, answer_word, answer_read, answer_tick, answer_automatic, answer_halt, after_off, after_off_stopped, after_begin, after_clear, after_dump, after_why, after_read, after_tick, after_automatic, after_skipped, after_halt}
 use Rattle.km_core.proofs.Standing.{counted_hosts, counted_stands, does, does_objects, enabled_is, over_objects, refused, refused_now, same_objects, with_objects}
 use Rattle.km_core.proofs.NoteActs.{painted_hosts}
 
 -- a word that is refused, and one that isn't
-usual : (e : Bool) (run : Option ℕ) (x : Answer) (r : Refusal) → word_refused e run ≡ Some r → Refused r ≡ unless (not e) Disabled (unless_busy run x)
+usual : (e : Bool) (run : Option ℕ) (x : Answer) (r : Refusal) → heeded e run ≡ Err r → Refused r ≡ unless (not e) Disabled (unless_busy run x)
 usual false run x r e = let same : Disabled ≡ r = cc in ap Refused (sym same)
 usual true None x r e = absurd (let z : ⊥ = cc in z)
 usual true (Some k) x r e = let same : Busy k ≡ r = cc in ap Refused (sym same)
 
-passed : (e : Bool) (run : Option ℕ) (x : Answer) → word_refused e run ≡ None → unless (not e) Disabled (unless_busy run x) ≡ x
+passed : (e : Bool) (run : Option ℕ) (x : Answer) → heeded e run ≡ Ok tt → unless (not e) Disabled (unless_busy run x) ≡ x
 passed false run x e = absurd (let z : ⊥ = cc in z)
 passed true None x e = refl
 passed true (Some k) x e = absurd (let z : ⊥ = cc in z)
 
-pub free : (e : Bool) (run : Option ℕ) → word_refused e run ≡ None → run ≡ None
+pub free : (e : Bool) (run : Option ℕ) → heeded e run ≡ Ok tt → run ≡ None
 free false run e = absurd (let z : ⊥ = cc in z)
 free true None e = refl
 free true (Some k) e = absurd (let z : ⊥ = cc in z)
@@ -85,16 +85,16 @@ set_word s file.Clear e = absurd (let z : ⊥ = cc in z)
 set_word s (file.Dump a) e = absurd (let z : ⊥ = cc in z)
 set_word s (file.Why a) e = absurd (let z : ⊥ = cc in z)
 
-pub set_refused : (p : Parts) (word : FileCmd) (r : Refusal) (s : State) → is_setting word ≡ true → word_refused s.enabled (running_of s) ≡ Some r → Refused r ≡ state_answer s (acts.File word) 0
+pub set_refused : (p : Parts) (word : FileCmd) (r : Refusal) (s : State) → is_setting word ≡ true → heeded s.enabled (running_of s) ≡ Err r → Refused r ≡ state_answer s (acts.File word) 0
 set_refused p word r s setting e = usual s.enabled (running_of s) Done r e ∙ sym (set_word s word setting) ∙ sym (answer_word s word 0)
 
-pub scan_refused : (r : Refusal) (s : State) → word_refused s.enabled (running_of s) ≡ Some r → Refused r ≡ state_answer s (acts.File file.Scan) 0
+pub scan_refused : (r : Refusal) (s : State) → heeded s.enabled (running_of s) ≡ Err r → Refused r ≡ state_answer s (acts.File file.Scan) 0
 scan_refused r s e = usual s.enabled (running_of s) Done r e ∙ sym (answer_word s file.Scan 0)
 
-pub dump_refused : (a : ℕ) (r : Refusal) (s : State) → word_refused s.enabled (running_of s) ≡ Some r → Refused r ≡ state_answer s (acts.File (file.Dump a)) 0
+pub dump_refused : (a : ℕ) (r : Refusal) (s : State) → heeded s.enabled (running_of s) ≡ Err r → Refused r ≡ state_answer s (acts.File (file.Dump a)) 0
 dump_refused a r s e = usual s.enabled (running_of s) (dump_in s.tracked a) r e ∙ sym (answer_word s (file.Dump a) 0)
 
-pub why_refused : (a : ℕ) (r : Refusal) (s : State) → word_refused s.enabled (running_of s) ≡ Some r → Refused r ≡ state_answer s (acts.File (file.Why a)) 0
+pub why_refused : (a : ℕ) (r : Refusal) (s : State) → heeded s.enabled (running_of s) ≡ Err r → Refused r ≡ state_answer s (acts.File (file.Why a)) 0
 why_refused a r s e = usual s.enabled (running_of s) (why_answer (world_of s) a) r e ∙ sym (answer_word s (file.Why a) 0)
 
 after_set : (s : State) (word : FileCmd) → is_setting word ≡ true → state_after s (acts.File word) Done ≡ word_written (counted s) word
@@ -166,7 +166,7 @@ set_whole : (p : Parts) (q : Settings) → IsWhole p → q.now ≤ 2 ^ 62 → q.
 set_whole p q w now period = record { memory = w.memory; pages = w.pages; agree = w.agree; places = w.places; now = now; period = period }
 
 pub set_done : (p : Parts) (q : Settings) (word : FileCmd) → IsWhole p → is_setting word ≡ true
-    → ((s : State) → StandsAs p s → word_refused s.enabled (running_of s) ≡ None)
+    → ((s : State) → StandsAs p s → heeded s.enabled (running_of s) ≡ Ok tt)
     → ((s : State) → set_in s ≡ p.settings → q ≡ set_in (word_written s word)) → q.now ≡ p.settings.now → q.period < 2 ^ 43
     → Answers p (record p { settings = q }) (acts.File word) Done
 set_done p q word w setting passes set now period = record {
@@ -331,7 +331,7 @@ shown (Some i) = Dumped i
 shown_is : (ts : List Tracked) (a : ℕ) → dump_in ts a ≡ shown (option_map info_in (tracked_where (contains a) ts))
 shown_is ts a = elim (tracked_where (contains a) ts) as (λ o. (elim o as (λ _. Answer) [ None ↦ Refused NoObject | Some t ↦ Dumped (info_in t) ]) ≡ shown (option_map info_in o)) [ None ↦ refl | Some t ↦ refl ]
 
-pub dump_answers : (p : Parts) (a : ℕ) (found : Option Info) → IsWhole p → ((s : State) → StandsAs p s → word_refused s.enabled (running_of s) ≡ None)
+pub dump_answers : (p : Parts) (a : ℕ) (found : Option Info) → IsWhole p → ((s : State) → StandsAs p s → heeded s.enabled (running_of s) ≡ Ok tt)
     → ((s : State) → AreOf p.objects s → found ≡ option_map info_in (tracked_where (contains a) s.tracked)) → Answers p p (acts.File (file.Dump a)) (shown found)
 dump_answers p a None w passes found =
     refused_now p (acts.File (file.Dump a)) NoObject w refl
@@ -360,7 +360,7 @@ looked o s a t found is same of =
 why_is : (w : World) (a : ℕ) → why_answer w a ≡ done_if (is_some (block_with w.blocks a))
 why_is w a = elim (block_with w.blocks a) as (λ o. (elim o as (λ _. Answer) [ None ↦ Refused NoObject | Some _ ↦ Done ]) ≡ done_if (is_some o)) [ None ↦ refl | Some b ↦ refl ]
 
-pub why_answers : (p : Parts) (a : ℕ) (there : Bool) → IsWhole p → ((s : State) → StandsAs p s → word_refused s.enabled (running_of s) ≡ None)
+pub why_answers : (p : Parts) (a : ℕ) (there : Bool) → IsWhole p → ((s : State) → StandsAs p s → heeded s.enabled (running_of s) ≡ Ok tt)
     → ((s : State) → AreOf p.objects s → there ≡ is_some (block_with (blocks_in s.tracked) a)) → Answers p p (acts.File (file.Why a)) (done_if there)
 why_answers p a false w passes there =
     refused_now p (acts.File (file.Why a)) NoObject w refl
@@ -382,7 +382,7 @@ stacks_end s (t ∷ ts) r e =
 agrees_begun : (p : Parts) (o : Objects) → (r : IsReady p) → ((roll : Roll) → All StackEnds roll.tasks → Agree o roll) → Agree o p.hosts.roll
 agrees_begun p o r agree = agree p.hosts.roll (subst (λ ts. All StackEnds ts) r.stands.hosts.tasks (stacks_end r.state r.state.tasks r.reached r.reached.placed.stacks))
 
-pub begin_answers : (p : Parts) (o : Objects) → IsReady p → ((s : State) → StandsAs p s → word_refused s.enabled (running_of s) ≡ None)
+pub begin_answers : (p : Parts) (o : Objects) → IsReady p → ((s : State) → StandsAs p s → heeded s.enabled (running_of s) ≡ Ok tt)
     → ((s : State) → s.now ≡ p.settings.now → s.stacks ≡ p.settings.stacks → AreOf p.objects s → AreOf o (scan_begun s)) → ((roll : Roll) → All StackEnds roll.tasks → Agree o roll) → places o ≡ places p.objects
     → Answers p (record p { objects = o }) (acts.File file.Scan) Done
 begin_answers p o r passes state agree room =

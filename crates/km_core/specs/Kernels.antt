@@ -1,5 +1,5 @@
 -- Small words of the kernel's calls.
-use Rattle.std.specs.Prelude.{ℕ, Bool, true, false, Option, Some, None, if◌then◌else◌}
+use Rattle.std.specs.Prelude.{ℕ, Bool, true, false, Option, Some, None, Result, Ok, Err, if◌then◌else◌}
 use Rattle.km_base.specs.declared.acts.Act.{Act}
 use Rattle.km_base.specs.declared.acts.Act.TheVariants as acts
 use Rattle.km_base.specs.declared.acts.FileCmd.{FileCmd}
@@ -20,11 +20,16 @@ is_setting (Dump _) = false
 is_setting (Why _) = false
 is_setting _ = true
 
--- why a word is refused
-abbrev pub word_refused : Bool → Option ℕ → Option Refusal
-word_refused false running = Some Disabled
-word_refused true None = None
-word_refused true (Some k) = Some (Busy k)
+-- an answer, or the refusal as one
+abbrev pub answered : Result Answer Refusal → Answer
+answered (Ok given) = given
+answered (Err r) = Refused r
+
+-- whether a word is heeded, or why not
+abbrev pub heeded : Bool → Option ℕ → Result (Unit {0}) Refusal
+heeded false running = Err Disabled
+heeded true None = Ok tt
+heeded true (Some k) = Err (Busy k)
 
 -- done where there is a block
 abbrev pub done_if : Bool → Answer

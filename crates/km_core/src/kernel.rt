@@ -7,12 +7,11 @@ ghost use Rattle.km_model.specs.Answers.{is_uneven as is_uneven_size, part_answe
 ghost use Rattle.km_model.specs.Blocks.{Block, block_with};
 ghost use Rattle.km_model.specs.Headline.{IsMemorySize};
 ghost use Rattle.km_model.specs.Placement.{head_with, slot_of_area};
-ghost use Rattle.km_core.specs.Kernels.{act_of, done_if, is_setting, word_refused};
+ghost use Rattle.km_core.specs.Kernels.{act_of, answered, done_if, heeded, is_setting};
 ghost use Rattle.km_state.specs.State.{State, blocks_in, opened, running_of};
 ghost use Rattle.km_base.specs.declared.acts.FileCmd.TheVariants as file;
 ghost use Rattle.km_state.specs.StateAfter.{registered_at};
 ghost use Rattle.km_tasks.specs.Roll.{Roll};
-ghost use Rattle.km_hosts.specs.Hosting.{at, done as done_of};
 ghost use Rattle.km_objects.specs.Objects.{Agree, AreOf, places};
 ghost use Rattle.km_words.specs.Told.{Told};
 ghost use Rattle.km_core.specs.Parts.{Answers, HasPlace, IsReady, IsWhole, StandsAs, Touches, set_in};
@@ -84,195 +83,183 @@ impl<M: ObjectMap> Kernel<M> {
     }
 
     /// Adds a section and registers its words. It needs no reference.
-    fn section(&mut self, name: Name, words: u64) -> Answer
+    fn section(&mut self, name: Name, words: u64) -> Result<Answer, Refusal>
         requires ready { IsReady self.old }
-        ensures answers { Answers self.old self.new (acts.Section name words) result }
-        ensures quiet { (t : Told) → Touches (acts.Section name words) result t t }
+        ensures answers { Answers self.old self.new (acts.Section name words) (answered result) }
+        ensures quiet { (t : Told) → Touches (acts.Section name words) (answered result) t t }
     {
-        match self.hosts.section(name, words) {
-            Ok(span) => {
-                self.register(span, 0, None);
-                Answer::Done
-            }
-            Err(refusal) => Answer::Refused(refusal),
-        }
+        let span = self.hosts.section(name, words)?;
+        self.register(span, 0, None);
+        Ok(Answer::Done)
     }
 
     /// Starts a task.
-    fn start_task(&mut self, name: Name) -> Answer
+    fn start_task(&mut self, name: Name) -> Result<Answer, Refusal>
         requires ready { IsReady self.old }
-        ensures answers { Answers self.old self.new (acts.TaskStart name) result }
-        ensures quiet { (t : Told) → Touches (acts.TaskStart name) result t t }
+        ensures answers { Answers self.old self.new (acts.TaskStart name) (answered result) }
+        ensures quiet { (t : Told) → Touches (acts.TaskStart name) (answered result) t t }
     {
-        done(self.hosts.start_task(name))
+        self.hosts.start_task(name)?;
+        Ok(Answer::Done)
     }
 
     /// Ends a task.
-    fn exit_task(&mut self, name: Name) -> Answer
+    fn exit_task(&mut self, name: Name) -> Result<Answer, Refusal>
         requires ready { IsReady self.old }
-        ensures answers { Answers self.old self.new (acts.TaskExit name) result }
-        ensures quiet { (t : Told) → Touches (acts.TaskExit name) result t t }
+        ensures answers { Answers self.old self.new (acts.TaskExit name) (answered result) }
+        ensures quiet { (t : Told) → Touches (acts.TaskExit name) (answered result) t t }
     {
-        done(self.hosts.exit_task(name))
+        self.hosts.exit_task(name)?;
+        Ok(Answer::Done)
     }
 
     /// Sets a register of a task.
-    fn set_reg(&mut self, task: Name, reg: Reg, value: u64) -> Answer
+    fn set_reg(&mut self, task: Name, reg: Reg, value: u64) -> Result<Answer, Refusal>
         requires ready { IsReady self.old }
-        ensures answers { Answers self.old self.new (acts.SetReg task reg value) result }
-        ensures quiet { (t : Told) → Touches (acts.SetReg task reg value) result t t }
+        ensures answers { Answers self.old self.new (acts.SetReg task reg value) (answered result) }
+        ensures quiet { (t : Told) → Touches (acts.SetReg task reg value) (answered result) t t }
     {
-        done(self.hosts.set_reg(task, reg, value))
+        self.hosts.set_reg(task, reg, value)?;
+        Ok(Answer::Done)
     }
 
     /// Loads a word into a register of a task.
-    fn load<W: Words>(&mut self, words: &mut W, task: Name, reg: Reg, a: Addr) -> Answer
+    fn load<W: Words>(
+        &mut self,
+        words: &mut W,
+        task: Name,
+        reg: Reg,
+        a: Addr,
+    ) -> Result<Answer, Refusal>
         requires ready { IsReady self.old }
         requires size { (W.told words.old).size ≡ self.old.words }
-        ensures answers { Answers self.old self.new (acts.Load task reg a.0) result }
-        ensures words { Touches (acts.Load task reg a.0) result (W.told words.old) (W.told words.new) }
+        ensures answers { Answers self.old self.new (acts.Load task reg a.0) (answered result) }
+        ensures words { Touches (acts.Load task reg a.0) (answered result) (W.told words.old) (W.told words.new) }
     {
         if self.hosts.tasks().reg(task, reg).is_err() {
-            return Answer::Refused(Refusal::NoTask);
+            return Err(Refusal::NoTask);
         }
         if !in_memory(a, self.words) {
-            return Answer::Refused(Refusal::BadAddress);
+            return Err(Refusal::BadAddress);
         }
         let value = words.load(a);
         let _ = self.hosts.set_reg(task, reg, value);
-        Answer::Loaded { addr: a.0, value }
+        Ok(Answer::Loaded { addr: a.0, value })
     }
 
     /// Stores a word.
-    fn store<W: Words>(&mut self, words: &mut W, a: Addr, value: u64) -> Answer
+    fn store<W: Words>(&mut self, words: &mut W, a: Addr, value: u64) -> Result<Answer, Refusal>
         requires ready { IsReady self.old }
         requires size { (W.told words.old).size ≡ self.old.words }
-        ensures answers { Answers self.old self.new (acts.Store a.0 value) result }
-        ensures words { Touches (acts.Store a.0 value) result (W.told words.old) (W.told words.new) }
+        ensures answers { Answers self.old self.new (acts.Store a.0 value) (answered result) }
+        ensures words { Touches (acts.Store a.0 value) (answered result) (W.told words.old) (W.told words.new) }
     {
         if !in_memory(a, self.words) {
-            return Answer::Refused(Refusal::BadAddress);
+            return Err(Refusal::BadAddress);
         }
         words.store(a, value);
-        Answer::Done
+        Ok(Answer::Done)
     }
 
     /// Allocates a block and registers it. It needs one reference.
-    fn kmalloc(&mut self, size: u64) -> Answer
+    fn kmalloc(&mut self, size: u64) -> Result<Answer, Refusal>
         requires ready { IsReady self.old }
-        ensures answers { Answers self.old self.new (acts.Kmalloc size) result }
-        ensures quiet { (t : Told) → Touches (acts.Kmalloc size) result t t }
+        ensures answers { Answers self.old self.new (acts.Kmalloc size) (answered result) }
+        ensures quiet { (t : Told) → Touches (acts.Kmalloc size) (answered result) t t }
     {
-        match self.hosts.kmalloc(size) {
-            Ok(span) => {
-                self.register(span, 1, None);
-                Answer::At(span.start.0)
-            }
-            Err(refusal) => Answer::Refused(refusal),
-        }
+        let span = self.hosts.kmalloc(size)?;
+        self.register(span, 1, None);
+        Ok(Answer::At(span.start.0))
     }
 
     /// Frees a block and unregisters it.
-    fn kfree(&mut self, start: Addr) -> Answer
+    fn kfree(&mut self, start: Addr) -> Result<Answer, Refusal>
         requires ready { IsReady self.old }
-        ensures answers { Answers self.old self.new (acts.Kfree start.0) result }
-        ensures quiet { (t : Told) → Touches (acts.Kfree start.0) result t t }
+        ensures answers { Answers self.old self.new (acts.Kfree start.0) (answered result) }
+        ensures quiet { (t : Told) → Touches (acts.Kfree start.0) (answered result) t t }
     {
-        match self.hosts.kfree(start) {
-            Ok(()) => {
-                self.objects.unregister(start);
-                Answer::Done
-            }
-            Err(refusal) => Answer::Refused(refusal),
-        }
+        self.hosts.kfree(start)?;
+        self.objects.unregister(start);
+        Ok(Answer::Done)
     }
 
     /// Takes untracked pages.
-    fn take_pages(&mut self, count: u64) -> Answer
+    fn take_pages(&mut self, count: u64) -> Result<Answer, Refusal>
         requires ready { IsReady self.old }
-        ensures answers { Answers self.old self.new (acts.Pages count) result }
-        ensures quiet { (t : Told) → Touches (acts.Pages count) result t t }
+        ensures answers { Answers self.old self.new (acts.Pages count) (answered result) }
+        ensures quiet { (t : Told) → Touches (acts.Pages count) (answered result) t t }
     {
-        placed(self.hosts.take_pages(count))
+        let start = self.hosts.take_pages(count)?;
+        Ok(Answer::At(start.0))
     }
 
     /// Gives untracked pages back.
-    fn give_pages(&mut self, start: Addr) -> Answer
+    fn give_pages(&mut self, start: Addr) -> Result<Answer, Refusal>
         requires ready { IsReady self.old }
-        ensures answers { Answers self.old self.new (acts.FreePages start.0) result }
-        ensures quiet { (t : Told) → Touches (acts.FreePages start.0) result t t }
+        ensures answers { Answers self.old self.new (acts.FreePages start.0) (answered result) }
+        ensures quiet { (t : Told) → Touches (acts.FreePages start.0) (answered result) t t }
     {
-        done(self.hosts.give_pages(start))
+        self.hosts.give_pages(start)?;
+        Ok(Answer::Done)
     }
 
     /// Takes an area with its head and registers both: the head needs one reference and passes
     /// further ones on to the area, which needs two.
-    fn take_area(&mut self, size: u64) -> Answer
+    fn take_area(&mut self, size: u64) -> Result<Answer, Refusal>
         requires ready { IsReady self.old }
-        ensures answers { Answers self.old self.new (acts.VmTake size) result }
-        ensures quiet { (t : Told) → Touches (acts.VmTake size) result t t }
+        ensures answers { Answers self.old self.new (acts.VmTake size) (answered result) }
+        ensures quiet { (t : Told) → Touches (acts.VmTake size) (answered result) t t }
     {
-        match self.hosts.take_area(size) {
-            Ok(taken) => {
-                self.register(taken.head, 1, Some(taken.area.start));
-                self.register(taken.area, 2, None);
-                Answer::At(taken.area.start.0)
-            }
-            Err(refusal) => Answer::Refused(refusal),
-        }
+        let taken = self.hosts.take_area(size)?;
+        self.register(taken.head, 1, Some(taken.area.start));
+        self.register(taken.area, 2, None);
+        Ok(Answer::At(taken.area.start.0))
     }
 
     /// Gives an area and its head back, and unregisters both.
-    fn give_area(&mut self, start: Addr) -> Answer
+    fn give_area(&mut self, start: Addr) -> Result<Answer, Refusal>
         requires ready { IsReady self.old }
-        ensures answers { Answers self.old self.new (acts.VmGive start.0) result }
-        ensures quiet { (t : Told) → Touches (acts.VmGive start.0) result t t }
+        ensures answers { Answers self.old self.new (acts.VmGive start.0) (answered result) }
+        ensures quiet { (t : Told) → Touches (acts.VmGive start.0) (answered result) t t }
     {
-        match self.hosts.give_area(start) {
-            Ok(given) => {
-                self.objects.unregister(start);
-                self.objects.unregister(given.head.start);
-                Answer::Done
-            }
-            Err(refusal) => Answer::Refused(refusal),
-        }
+        let given = self.hosts.give_area(start)?;
+        self.objects.unregister(start);
+        self.objects.unregister(given.head.start);
+        Ok(Answer::Done)
     }
 
     /// Takes boot memory and registers its bytes. It needs no reference.
-    fn take_boot(&mut self, size: u64) -> Answer
+    fn take_boot(&mut self, size: u64) -> Result<Answer, Refusal>
         requires ready { IsReady self.old }
-        ensures answers { Answers self.old self.new (acts.BootMem size) result }
-        ensures quiet { (t : Told) → Touches (acts.BootMem size) result t t }
+        ensures answers { Answers self.old self.new (acts.BootMem size) (answered result) }
+        ensures quiet { (t : Told) → Touches (acts.BootMem size) (answered result) t t }
     {
-        match self.hosts.take_boot(size) {
-            Ok(start) => {
-                self.register(Span { start, size }, 0, None);
-                Answer::At(start.0)
-            }
-            Err(refusal) => Answer::Refused(refusal),
-        }
+        let start = self.hosts.take_boot(size)?;
+        self.register(Span { start, size }, 0, None);
+        Ok(Answer::At(start.0))
     }
 
     /// Takes a part out of a block of boot memory.
-    fn free_part(&mut self, a: Addr, size: u64) -> Answer
+    fn free_part(&mut self, a: Addr, size: u64) -> Result<Answer, Refusal>
         requires ready { IsReady self.old }
-        ensures answers { Answers self.old self.new (acts.FreePart a.0 size) result }
-        ensures quiet { (t : Told) → Touches (acts.FreePart a.0 size) result t t }
+        ensures answers { Answers self.old self.new (acts.FreePart a.0 size) (answered result) }
+        ensures quiet { (t : Told) → Touches (acts.FreePart a.0 size) (answered result) t t }
     {
         if !in_memory(a, self.words) {
-            return Answer::Refused(Refusal::BadAddress);
+            return Err(Refusal::BadAddress);
         }
         if is_uneven(size) {
-            return Answer::Refused(Refusal::BadSize);
+            return Err(Refusal::BadSize);
         }
         if !self.hosts.is_boot(a) {
-            return Answer::Refused(Refusal::NotBoot);
+            return Err(Refusal::NotBoot);
         }
         if size > MOST_BYTES {
-            return Answer::Refused(self.part_behind(a));
+            return Err(self.part_behind(a));
         }
         let part = Span { start: a, size };
-        done(self.objects.free_part(part, self.settings.enabled))
+        self.objects.free_part(part, self.settings.enabled)?;
+        Ok(Answer::Done)
     }
 
     /// Why a part that goes past the memory is refused.
@@ -286,141 +273,134 @@ impl<M: ObjectMap> Kernel<M> {
     }
 
     /// Takes a note of a block.
-    fn annotate(&mut self, start: Addr, note: Note) -> Answer
+    fn annotate(&mut self, start: Addr, note: Note) -> Result<Answer, Refusal>
         requires ready { IsReady self.old }
-        ensures answers { Answers self.old self.new (act_of note start.0) result }
-        ensures quiet { (t : Told) → Touches (act_of note start.0) result t t }
+        ensures answers { Answers self.old self.new (act_of note start.0) (answered result) }
+        ensures quiet { (t : Told) → Touches (act_of note start.0) (answered result) t t }
     {
         if !self.settings.enabled {
-            return Answer::Refused(Refusal::Disabled);
+            return Err(Refusal::Disabled);
         }
         done_where(self.objects.annotate(start, note))
     }
 
     /// A part of a block is scanned, and else only other such parts.
-    fn scan_area(&mut self, a: Addr, size: u64) -> Answer
+    fn scan_area(&mut self, a: Addr, size: u64) -> Result<Answer, Refusal>
         requires ready { IsReady self.old }
-        ensures answers { Answers self.old self.new (acts.ScanArea a.0 size) result }
-        ensures quiet { (t : Told) → Touches (acts.ScanArea a.0 size) result t t }
+        ensures answers { Answers self.old self.new (acts.ScanArea a.0 size) (answered result) }
+        ensures quiet { (t : Told) → Touches (acts.ScanArea a.0 size) (answered result) t t }
     {
         if !self.settings.enabled {
-            return Answer::Refused(Refusal::Disabled);
+            return Err(Refusal::Disabled);
         }
         if !in_memory(a, self.words) {
-            return Answer::Refused(Refusal::BadAddress);
+            return Err(Refusal::BadAddress);
         }
         if is_uneven(size) {
-            return Answer::Refused(Refusal::BadSize);
+            return Err(Refusal::BadSize);
         }
-        done(self.objects.add_area(a, size))
+        self.objects.add_area(a, size)?;
+        Ok(Answer::Done)
     }
 
     /// Nothing is watched any more, and a running scan stops.
-    fn off(&mut self) -> Answer
+    fn off(&mut self) -> Result<Answer, Refusal>
         requires ready { IsReady self.old }
-        ensures answers { Answers self.old self.new (acts.File file.Off) result }
-        ensures quiet { (t : Told) → Touches (acts.File file.Off) result t t }
+        ensures answers { Answers self.old self.new (acts.File file.Off) (answered result) }
+        ensures quiet { (t : Told) → Touches (acts.File file.Off) (answered result) t t }
     {
         if !self.settings.enabled {
-            return Answer::Refused(Refusal::Disabled);
+            return Err(Refusal::Disabled);
         }
         self.settings.enabled = false;
         self.settings.due = None;
-        match self.objects.stop() {
+        Ok(match self.objects.stop() {
             Some(scan) => Answer::Stopped { scan },
             None => Answer::Done,
-        }
+        })
     }
 
     /// The listed blocks need no reference any more; after `off` all blocks are dropped.
-    fn clear(&mut self) -> Answer
+    fn clear(&mut self) -> Result<Answer, Refusal>
         requires ready { IsReady self.old }
-        ensures answers { Answers self.old self.new (acts.File file.Clear) result }
-        ensures quiet { (t : Told) → Touches (acts.File file.Clear) result t t }
+        ensures answers { Answers self.old self.new (acts.File file.Clear) (answered result) }
+        ensures quiet { (t : Told) → Touches (acts.File file.Clear) (answered result) t t }
     {
         if let Some(scan) = self.objects.running() {
-            return Answer::Refused(Refusal::Busy(scan));
+            return Err(Refusal::Busy(scan));
         }
         if self.settings.enabled {
             self.objects.clear();
         } else {
             self.objects.drop_all();
         }
-        Answer::Done
+        Ok(Answer::Done)
     }
 
     /// What is shown of the block that has a byte.
-    fn dump(&mut self, a: u64) -> Answer
+    fn dump(&mut self, a: u64) -> Result<Answer, Refusal>
         requires ready { IsReady self.old }
-        ensures answers { Answers self.old self.new (acts.File (file.Dump a)) result }
-        ensures quiet { (t : Told) → Touches (acts.File (file.Dump a)) result t t }
+        ensures answers { Answers self.old self.new (acts.File (file.Dump a)) (answered result) }
+        ensures quiet { (t : Told) → Touches (acts.File (file.Dump a)) (answered result) t t }
     {
-        if let Some(refusal) = self.refused_word() {
-            return Answer::Refused(refusal);
-        }
+        self.heeds_words()?;
         match self.objects.dump(Addr(a)) {
-            Some(info) => Answer::Dumped(info),
-            None => Answer::Refused(Refusal::NoObject),
+            Some(info) => Ok(Answer::Dumped(info)),
+            None => Err(Refusal::NoObject),
         }
     }
 
     /// Whether a block has a byte, so that it can be asked why the block is held.
-    fn why(&mut self, a: u64) -> Answer
+    fn why(&mut self, a: u64) -> Result<Answer, Refusal>
         requires ready { IsReady self.old }
-        ensures answers { Answers self.old self.new (acts.File (file.Why a)) result }
-        ensures quiet { (t : Told) → Touches (acts.File (file.Why a)) result t t }
+        ensures answers { Answers self.old self.new (acts.File (file.Why a)) (answered result) }
+        ensures quiet { (t : Told) → Touches (acts.File (file.Why a)) (answered result) t t }
     {
-        if let Some(refusal) = self.refused_word() {
-            return Answer::Refused(refusal);
-        }
+        self.heeds_words()?;
         done_where(self.objects.track().look(Addr(a)).is_some())
     }
 
-    /// Why a word is refused: `off` was written, or a scan is running.
-    fn refused_word(&self) -> Option<Refusal>
-        ensures { (s : State) → StandsAs self.now s → result ≡ word_refused s.enabled (running_of s) }
+    /// Whether a word is heeded, or why not: `off` was written, or a scan is running.
+    fn heeds_words(&self) -> Result<(), Refusal>
+        ensures { (s : State) → StandsAs self.now s → result ≡ heeded s.enabled (running_of s) }
     {
         if !self.settings.enabled {
-            return Some(Refusal::Disabled);
+            return Err(Refusal::Disabled);
         }
         match self.objects.running() {
-            Some(scan) => Some(Refusal::Busy(scan)),
-            None => None,
+            Some(scan) => Err(Refusal::Busy(scan)),
+            None => Ok(()),
         }
     }
 
     /// A scan begins.
-    fn begin(&mut self) -> Answer
+    fn begin(&mut self) -> Result<Answer, Refusal>
         requires ready { IsReady self.old }
-        ensures answers { Answers self.old self.new (acts.File file.Scan) result }
-        ensures quiet { (t : Told) → Touches (acts.File file.Scan) result t t }
+        ensures answers { Answers self.old self.new (acts.File file.Scan) (answered result) }
+        ensures quiet { (t : Told) → Touches (acts.File file.Scan) (answered result) t t }
     {
-        if let Some(refusal) = self.refused_word() {
-            return Answer::Refused(refusal);
-        }
+        self.heeds_words()?;
         self.objects.begin(self.settings.now, self.settings.stacks);
-        Answer::Done
+        Ok(Answer::Done)
     }
 
     /// A word that sets something.
-    fn set(&mut self, word: FileCmd) -> Answer
+    fn set(&mut self, word: FileCmd) -> Result<Answer, Refusal>
         requires ready { IsReady self.old }
         requires setting { is_setting word ≡ true }
-        ensures answers { Answers self.old self.new (acts.File word) result }
-        ensures quiet { (t : Told) → Touches (acts.File word) result t t }
+        ensures answers { Answers self.old self.new (acts.File word) (answered result) }
+        ensures quiet { (t : Told) → Touches (acts.File word) (answered result) t t }
     {
-        if let Some(refusal) = self.refused_word() {
-            return Answer::Refused(refusal);
-        }
+        self.heeds_words()?;
         self.settings.write(word);
-        Answer::Done
+        Ok(Answer::Done)
     }
 
     /// A word is written to the file.
-    fn write(&mut self, word: FileCmd) -> Answer
+    fn write(&mut self, word: FileCmd) -> Result<Answer, Refusal>
         requires ready { IsReady self.old }
-        ensures answers { Answers self.old self.new (acts.File word) result }
-        ensures quiet { (t : Told) → Touches (acts.File word) result t t }
+        ensures answers { Answers self.old self.new (acts.File word) (answered result) }
+        ensures quiet { (t : Told) → Touches (acts.File word) (answered result) t t }
     {
         match word {
             FileCmd::Off => self.off(),
@@ -433,43 +413,43 @@ impl<M: ObjectMap> Kernel<M> {
     }
 
     /// The file is read.
-    fn read(&mut self) -> Answer
+    fn read(&mut self) -> Result<Answer, Refusal>
         requires ready { IsReady self.old }
-        ensures answers { Answers self.old self.new (acts.Read) result }
-        ensures quiet { (t : Told) → Touches (acts.Read) result t t }
+        ensures answers { Answers self.old self.new (acts.Read) (answered result) }
+        ensures quiet { (t : Told) → Touches (acts.Read) (answered result) t t }
     {
         match self.objects.running() {
-            Some(scan) => Answer::Refused(Refusal::Busy(scan)),
-            None => Answer::Done,
+            Some(scan) => Err(Refusal::Busy(scan)),
+            None => Ok(Answer::Done),
         }
     }
 
     /// Time passes, in milliseconds.
-    fn tick(&mut self, n: u64) -> Answer
+    fn tick(&mut self, n: u64) -> Result<Answer, Refusal>
         requires ready { IsReady self.old }
         requires small { self.old.settings.now + n ≤ 2 ^ 62 }
-        ensures answers { Answers self.old self.new (acts.Tick n) result }
-        ensures quiet { (t : Told) → Touches (acts.Tick n) result t t }
+        ensures answers { Answers self.old self.new (acts.Tick n) (answered result) }
+        ensures quiet { (t : Told) → Touches (acts.Tick n) (answered result) t t }
     {
         self.settings.now += n;
-        Answer::Done
+        Ok(Answer::Done)
     }
 
     /// An automatic scan begins, or is left out where one is running. The next is due a period later.
-    fn begin_automatic(&mut self) -> Answer
+    fn begin_automatic(&mut self) -> Result<Answer, Refusal>
         requires ready { IsReady self.old }
-        ensures answers { Answers self.old self.new (acts.AutoBegin) result }
-        ensures quiet { (t : Told) → Touches (acts.AutoBegin) result t t }
+        ensures answers { Answers self.old self.new (acts.AutoBegin) (answered result) }
+        ensures quiet { (t : Told) → Touches (acts.AutoBegin) (answered result) t t }
     {
         if !self.settings.enabled {
-            return Answer::Refused(Refusal::Disabled);
+            return Err(Refusal::Disabled);
         }
         self.settings.due = Some(self.settings.now + self.settings.period);
         if self.objects.running().is_some() {
-            return Answer::Skipped;
+            return Ok(Answer::Skipped);
         }
         self.objects.begin(self.settings.now, self.settings.stacks);
-        Answer::Done
+        Ok(Answer::Done)
     }
 
     /// A load of the running scan, or its end.
@@ -483,14 +463,14 @@ impl<M: ObjectMap> Kernel<M> {
     }
 
     /// A running scan stops.
-    fn halt(&mut self) -> Answer
+    fn halt(&mut self) -> Result<Answer, Refusal>
         requires ready { IsReady self.old }
-        ensures answers { Answers self.old self.new (acts.Halt) result }
-        ensures quiet { (t : Told) → Touches (acts.Halt) result t t }
+        ensures answers { Answers self.old self.new (acts.Halt) (answered result) }
+        ensures quiet { (t : Told) → Touches (acts.Halt) (answered result) t t }
     {
         match self.objects.stop() {
-            Some(scan) => Answer::Stopped { scan },
-            None => Answer::Refused(Refusal::NoScanRunning),
+            Some(scan) => Ok(Answer::Stopped { scan }),
+            None => Err(Refusal::NoScanRunning),
         }
     }
 
@@ -506,17 +486,20 @@ impl<M: ObjectMap> Kernel<M> {
         if let Act::Step = act {
             return self.step(words);
         }
-        self.answer_by_table(words, act)
+        match self.answer_by_table(words, act) {
+            Ok(answer) => answer,
+            Err(refusal) => Answer::Refused(refusal),
+        }
     }
 
     /// Answers an act by the helper that owns it.
     #[inline(never)]
-    fn answer_by_table<W: Words>(&mut self, words: &mut W, act: Act) -> Answer
+    fn answer_by_table<W: Words>(&mut self, words: &mut W, act: Act) -> Result<Answer, Refusal>
         requires ready { IsReady self.old }
         requires size { (W.told words.old).size ≡ self.old.words }
         requires small { (n : ℕ) → act ≡ acts.Tick n → self.old.settings.now + n ≤ 2 ^ 62 }
-        ensures answers { Answers self.old self.new act result }
-        ensures words { Touches act result (W.told words.old) (W.told words.new) }
+        ensures answers { Answers self.old self.new act (answered result) }
+        ensures words { Touches act (answered result) (W.told words.old) (W.told words.new) }
     {
         match act {
             Act::Section { name, words } => self.section(name, words),
@@ -542,7 +525,7 @@ impl<M: ObjectMap> Kernel<M> {
             Act::Read => self.read(),
             Act::Tick(n) => self.tick(n),
             Act::AutoBegin => self.begin_automatic(),
-            Act::Step => self.step(words),
+            Act::Step => Ok(self.step(words)),
             Act::Halt => self.halt(),
         }
     }
@@ -626,33 +609,13 @@ fn is_uneven(size: u64) -> bool
     size == 0 || size % 8 != 0
 }
 
-/// Done, or refused.
-fn done(outcome: Result<(), Refusal>) -> Answer
-    ensures { result ≡ done_of outcome }
-{
-    match outcome {
-        Ok(()) => Answer::Done,
-        Err(refusal) => Answer::Refused(refusal),
-    }
-}
-
-/// Placed at an address, or refused.
-fn placed(outcome: Result<Addr, Refusal>) -> Answer
-    ensures { result ≡ at outcome }
-{
-    match outcome {
-        Ok(start) => Answer::At(start.0),
-        Err(refusal) => Answer::Refused(refusal),
-    }
-}
-
 /// Done where there is a block, else refused.
-fn done_where(there: bool) -> Answer
-    ensures { result ≡ done_if there }
+fn done_where(there: bool) -> Result<Answer, Refusal>
+    ensures { answered result ≡ done_if there }
 {
     if there {
-        Answer::Done
+        Ok(Answer::Done)
     } else {
-        Answer::Refused(Refusal::NoObject)
+        Err(Refusal::NoObject)
     }
 }

@@ -1,33 +1,36 @@
-use Rattle.std.proofs.Common.{◌≡◌, ◌∙◌, refl, sym, ap, subst}
+use Rattle.std.proofs.Common.{◌≡◌, ◌∙◌, refl, sym, ap, subst, Result, Err, rules}
 use Rattle.km_base.specs.declared.acts.Act.TheVariants as acts
 use Rattle.km_base.specs.declared.acts.FileCmd.TheVariants as file
 use Rattle.km_base.specs.declared.acts.Answer.{Answer}
-use Rattle.km_base.specs.declared.acts.Answer.TheVariants.{Refused}
 use Rattle.km_core.specs.Parts.{Answers, IsReady, Parts, StandsAs, Touches}
 use Rattle.km_core.proofs.Standing.{refused_now}
-use Rattle.km_core.proofs.ScanActs.{dump_answers, dump_refused, quietly_shown, shown}
+use Rattle.km_core.proofs.ScanActs.{dump_answers, dump_refused, shown, quietly_shown}
+use Rattle.km_core.specs.Kernels.{answered}
+use Rattle.km_base.specs.declared.acts.Refusal.{Refusal}
 use Rattle.km_core.proofs.kernel.Kernel.dump.Goals as goal
-use Rattle.km_core.proofs.kernel.Kernel.dump.Goals.{in-Some-dump, in-None}
+use Rattle.km_core.proofs.kernel.Kernel.dump.Goals.{in-Some, in-None}
 
-pub returns-in-Some : goal.returns-in-Some
-returns-in-Some g c =
+pub returns-in_err-heeds_words-clause-answers : goal.returns-in_err-heeds_words-clause-answers
+returns-in_err-heeds_words-clause-answers g c =
     let i = c.self.inside in
     let p : Parts = record { words = i.words; hosts = i.hosts; objects = i.objects; settings = i.settings } in
     let ready = subst IsReady (sym c.self.view_is) c.requires.ready in
-    record {
-      answers = subst (λ x. Answers x x (acts.File (file.Dump c.args.a)) (Refused c.in-Some.refusal)) c.self.view_is (refused_now p (acts.File (file.Dump c.args.a)) c.in-Some.refusal ready.whole refl (λ s stands reached. dump_refused c.args.a c.in-Some.refusal s (sym (c.refused_word.ensures s (subst (λ x. StandsAs x s) c.self.view_is stands)) ∙ c.in-Some.is)));
-      quiet = λ _. refl;
-    }
+    let why = c.in_err-heeds_words.field-0.0 in
+    let is : c.from_residual.result ≡ Err why = search rules in
+    subst (λ x. Answers x x (acts.File (file.Dump c.args.a)) (answered c.from_residual.result)) c.self.view_is (subst (λ (o : Result Answer Refusal). Answers p p (acts.File (file.Dump c.args.a)) (answered o)) (sym is)
+    (refused_now p (acts.File (file.Dump c.args.a)) why ready.whole refl (λ s stands reached. dump_refused c.args.a why s (sym (c.heeds_words.ensures s (subst (λ x. StandsAs x s) c.self.view_is stands)) ∙ c.in_err-heeds_words.was))))
 
-pub returns : goal.returns
-returns g c =
+pub returns-clause-answers : goal.returns-clause-answers
+returns-clause-answers g c =
     let i = c.self.inside in
     let p : Parts = record { words = i.words; hosts = i.hosts; objects = i.objects; settings = i.settings } in
     let ready = subst IsReady (sym c.self.view_is) c.requires.ready in
     let act = acts.File (file.Dump c.args.a) in
-    let is : shown c.dump.result ≡ c.match-dump.result = elim c.match-dump.branch [ in-Some-dump w ↦ ap shown w.in-Some-dump.is ∙ sym w.result-is | in-None w ↦ ap shown w.in-None.is ∙ sym w.result-is ] in
-    record {
-      answers = subst (λ x. Answers x x act c.match-dump.result) c.self.view_is (subst (λ (x : Answer). Answers p p act x) is
-          (dump_answers p c.args.a c.dump.result ready.whole (λ s stands. sym (c.refused_word.ensures s (subst (λ x. StandsAs x s) c.self.view_is stands)) ∙ c.in_default.is) c.dump.ensures));
-      quiet = λ t. subst (λ (x : Answer). Touches act x t t) is (quietly_shown c.args.a c.dump.result t);
-    }
+    let is : shown c.dump.result ≡ answered c.match-dump.result = elim c.match-dump.branch [ in-Some w ↦ ap shown w.in-Some.is ∙ ap answered (sym w.result-is) | in-None w ↦ ap shown w.in-None.is ∙ ap answered (sym w.result-is) ] in
+    subst (λ x. Answers x x act (answered c.match-dump.result)) c.self.view_is (subst (λ (x : Answer). Answers p p act x) is
+    (dump_answers p c.args.a c.dump.result ready.whole (λ s stands. sym (c.heeds_words.ensures s (subst (λ x. StandsAs x s) c.self.view_is stands)) ∙ c.in_ok-heeds_words.was) c.dump.ensures))
+
+pub returns-clause-quiet : goal.returns-clause-quiet
+returns-clause-quiet g c = λ t.
+    let is : shown c.dump.result ≡ answered c.match-dump.result = elim c.match-dump.branch [ in-Some w ↦ ap shown w.in-Some.is ∙ ap answered (sym w.result-is) | in-None w ↦ ap shown w.in-None.is ∙ ap answered (sym w.result-is) ] in
+    subst (λ (x : Answer). Touches (acts.File (file.Dump c.args.a)) x t t) is (quietly_shown c.args.a c.dump.result t)
