@@ -30,9 +30,10 @@ use Rattle.km_model.specs.Tasks.{Task}
 use Rattle.km_model.specs.Placement.{slot_of_area}
 use Rattle.km_model.specs.Expansion.{Acts, Makes, for_register, slot_word, vfree_acts, acts_behind, behind_acts, behind_line, first_acts, further_acts, world_after}
 use Rattle.km_model.specs.Output.{answer_text, events_text, keyword, line_text, listing_text, print_text, print_value}
-use Rattle.km_model.specs.Text.{refusal_text, value_text}
+use Rattle.km_model.specs.Text.{at_text, refusal_text, value_text}
 use Rattle.km_core.specs.Cores.{Seen}
 use Rattle.km_machine.specs.Machines.{For, RunsLine, Spent}
+use Rattle.km_machine.specs.Scans.{shown}
 use Rattle.km_machine.specs.Lines.{Gave, IsGiven, SoFar, is_alone, is_allocation, is_request, is_simple}
 
 -- whether an answer is an address
@@ -146,10 +147,15 @@ pub simply_answered : (run : Run) (a : Act) → is_simple a ≡ true → is_plac
 simply_answered run a s = no_request run a (simple_request a s)
 
 -- the first word of a line stands in an address's text alone
-pub any_word : (memory v w : List ℕ) (h : History) (a : Act) (given : Answer) → is_place given ≡ false → answer_text memory v h a given ≡ answer_text memory w h a given
-any_word memory v w h a (At x) e = absurd (cc)
-any_word memory v w h act.Read Done e = refl
-any_word memory v w h a given e = refl
+pub at_is : (memory word : List ℕ) (h : History) (a : Act) (start : ℕ) → at_text word start ≡ answer_text memory word h a (At start)
+at_is memory word h act.Read start = refl
+at_is memory word h a start = refl
+
+-- and what isn't an address is shown alike, but for a listing
+pub shown_is : (memory word : List ℕ) (h : History) (a : Act) (given : Answer) → (a ≡ act.Read → ⊥) → is_place given ≡ false → shown given ≡ answer_text memory word h a given
+shown_is memory word h a (At x) unread e = absurd (cc)
+shown_is memory word h act.Read Done unread e = absurd (unread refl)
+shown_is memory word h a given unread e = refl
 
 -- neither kind of act reads the file
 pub simple_unread : (a : Act) → is_simple a ≡ true → a ≡ act.Read → ⊥
@@ -274,13 +280,13 @@ listed_same : (memory : List ℕ) (h : History) → listing_text memory (record 
 unfolding world_after_act
 listed_same memory h = refl
 
-pub read_text : (memory word : List ℕ) (run : Run) (given : Answer) → (given ≡ Done → ⊥) → given ≡ told_answer run act.Read
-    → answer_text memory word run.history act.Step given ≡ answer_text memory [] run.history act.Read given
+pub read_text : (memory : List ℕ) (run : Run) (given : Answer) → (given ≡ Done → ⊥) → given ≡ told_answer run act.Read
+    → shown given ≡ answer_text memory [] run.history act.Read given
 unfolding answer
-read_text memory word run given never e = by_scan (running_scan (past_of run.history)) e where
-  by_scan : (o : Option ℕ) → given ≡ unless_busy o Done → answer_text memory word run.history act.Step given ≡ answer_text memory [] run.history act.Read given
+read_text memory run given never e = by_scan (running_scan (past_of run.history)) e where
+  by_scan : (o : Option ℕ) → given ≡ unless_busy o Done → shown given ≡ answer_text memory [] run.history act.Read given
   by_scan None e = absurd (never e)
-  by_scan (Some k) e = ap (answer_text memory word run.history act.Step) e ∙ ap (answer_text memory [] run.history act.Read) (sym e)
+  by_scan (Some k) e = ap shown e ∙ ap (answer_text memory [] run.history act.Read) (sym e)
 
 pub reads : (core next : Seen) (told after : List ℕ) (run : Run) (k k' : SinkState) (result : Result (Unit {0}) Failed) (given : Answer) → For core told run
     → For next after (happens run act.Read) → given ≡ told_answer run act.Read

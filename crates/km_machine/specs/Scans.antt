@@ -1,21 +1,28 @@
 -- What scanner steps and automatic scans make of a run, and what they print.
-use Rattle.std.specs.Prelude.{◌≡◌, ℕ, ◌+◌, ◌≤◌, List, [], ◌++◌, length, is_none, codes, Result, IsTrue}
-use Rattle.km_base.specs.declared.acts.Act.TheVariants.{Step}
+use Rattle.std.specs.Prelude.{◌≡◌, ℕ, ◌+◌, ◌≤◌, List, [], ◌++◌, length, is_none, Result, IsTrue}
 use Rattle.km_base.specs.declared.acts.Answer.{Answer}
-use Rattle.km_base.specs.declared.acts.Answer.TheVariants.{Done}
+use Rattle.km_base.specs.declared.acts.Answer.TheVariants.{Done, At, Loaded, Ended, Stopped, Skipped, Dumped, Refused}
 use Rattle.km_edge.specs.declared.errors.Failed.{Failed}
 use Rattle.km_edge.specs.Streams.{SinkState, WritesAll}
 use Rattle.km_model.specs.History.{History}
 use Rattle.km_model.specs.Follows.{Run, past_of}
 use Rattle.km_model.specs.Expansion.{world_after, is_idle, steps, due_by, ScansIfBegun, TicksOver}
-use Rattle.km_model.specs.Output.{answer_text, events_text}
+use Rattle.km_model.specs.Output.{events_text}
+use Rattle.km_model.specs.Text.{dump_text, new_text, refusal_text, stopped_text}
 use Rattle.km_laws.specs.Left.{left}
 use Rattle.km_core.specs.Cores.{Seen}
 use Rattle.km_machine.specs.Machines.{For}
 
--- what an answer prints that is none to a read
+-- what an answer prints that is neither an address nor one to a read
 abbrev pub shown : Answer → List ℕ
-shown answer = answer_text [] (codes "step") [] Step answer
+shown Done = []
+shown (At _) = []
+shown (Loaded _ _) = []
+shown (Ended _ new) = new_text new
+shown (Stopped scan) = stopped_text scan
+shown Skipped = []
+shown (Dumped info) = dump_text info
+shown (Refused r) = refusal_text r
 
 -- a history goes on to another, whose newer events print a text, whatever the words hold
 pub record GoesOn (h : History) (text : List ℕ) (h' : History) : Type 0 where

@@ -17,8 +17,7 @@ use km_base::{Act, Addr, Command, RegName};
 use km_edge::{Failed, Sink};
 use km_slab::words_for;
 
-/// Makes one event of a line, and writes its text unless a write has failed before. It is answered by no address, so
-/// that the word isn't written.
+/// Makes one event of a line, which is answered by no address, and writes its text unless a write has failed before.
 pub fn made<K: Sink>(
     machine: &mut Machine,
     act: Act,
@@ -32,7 +31,7 @@ pub fn made<K: Sink>(
 {
     let answer = machine.event(act);
     match written {
-        Ok(()) => print::answer(b"event", answer, sink),
+        Ok(()) => print::answer(answer, sink),
         Err(failed) => Err(failed),
     }
 }

@@ -189,10 +189,12 @@ fn requested<K: Sink>(
     ensures spent { Spent machine.old.core machine.new.core machine.old.words machine.new.words (2 ^ 14) 0 }
 {
     let answer = machine.event(act);
-    let written = print::answer(keyword(command), answer, sink);
     match answer {
-        Answer::At(start) => behind::acts(machine, command, start, written, sink),
-        _ => written,
+        Answer::At(start) => {
+            let written = print::address(keyword(command), start, sink);
+            behind::acts(machine, command, start, written, sink)
+        }
+        _ => print::answer(answer, sink),
     }
 }
 
@@ -231,7 +233,7 @@ fn read<K: Sink>(machine: &mut Machine, sink: &mut K) -> Result<(), Failed>
 {
     match machine.event(Act::Read) {
         Answer::Done => print::listing(machine, sink),
-        answer => print::answer(b"read", answer, sink),
+        answer => print::answer(answer, sink),
     }
 }
 

@@ -1,19 +1,16 @@
 //! What answers print.
 
 ghost use Rattle.std.specs.Prelude.{◌≡◌, ℕ, ◌+◌, ◌-◌, ◌%◌, ◌^◌, ◌<◌, ◌≤◌, ◌++◌, List, true, Some, min, length, take};
-ghost use Rattle.km_base.specs.declared.acts.Act.{Act};
-ghost use Rattle.km_base.specs.declared.acts.Act.TheVariants.{Read};
-ghost use Rattle.km_base.specs.declared.acts.Answer.TheVariants.{At};
 ghost use Rattle.km_edge.specs.Streams.{WritesAll};
 ghost use Rattle.km_laws.specs.Placed.{InMemory};
 ghost use Rattle.km_model.specs.Blocks.{Block};
 ghost use Rattle.km_model.specs.Follows.{Run};
-ghost use Rattle.km_model.specs.History.{History};
 ghost use Rattle.km_model.specs.Memory.{in_memory as is_word, word_at};
-ghost use Rattle.km_model.specs.Output.{answer_text, listing_text};
-ghost use Rattle.km_model.specs.Text.{dump_text, entry as entry_text, entry_age, entry_head, entry_hex, first_bytes, hex_rows};
+ghost use Rattle.km_model.specs.Output.{listing_text};
+ghost use Rattle.km_model.specs.Text.{at_text, dump_text, entry as entry_text, entry_age, entry_head, entry_hex, first_bytes, hex_rows};
 ghost use Rattle.km_track.specs.Tracker.{AreRising, Live, live_with};
 ghost use Rattle.km_machine.specs.Machines.{For};
+ghost use Rattle.km_machine.specs.Scans.{shown};
 
 use crate::machine::Machine;
 use km_base::{Addr, Answer, Info, Span};
@@ -25,20 +22,28 @@ use km_tree::TreeMap;
 use km_verdict::{first_listed, next_listed};
 use km_words::{Plain, Words, in_memory};
 
-/// Writes what an answer prints, unless it is that to a read. `word` is the first word of an allocation's line.
-pub fn answer<K: Sink>(word: &[u8], answer: Answer, sink: &mut K) -> Result<(), Failed>
-    requires some { (a : ℕ) → answer ≡ At a → 1 ≤ length word.now }
+/// Writes the address that an allocation was given. `word` is the first word of its line.
+pub fn address<K: Sink>(word: &[u8], start: u64, sink: &mut K) -> Result<(), Failed>
+    requires some { 1 ≤ length word.now }
     requires short { length word.now ≤ 16 }
-    ensures { (memory : List ℕ) (h : History) (act : Act) → (act ≡ Read → ⊥) → WritesAll (K.state sink.old) (K.state sink.new) (answer_text memory word.now h act answer) result }
+    ensures { WritesAll (K.state sink.old) (K.state sink.new) (at_text word.now start) result }
+{
+    let mut text = Text::new();
+    km_text::at(word, start, &mut text);
+    write_all(sink, text.bytes())
+}
+
+/// Writes what an answer prints that isn't an address, unless it is that to a read.
+pub fn answer<K: Sink>(answer: Answer, sink: &mut K) -> Result<(), Failed>
+    ensures { WritesAll (K.state sink.old) (K.state sink.new) (shown answer) result }
 {
     let mut text = Text::new();
     match answer {
-        Answer::At(start) => km_text::at(word, start, &mut text),
         Answer::Ended { new, .. } => km_text::new_leaks(new, &mut text),
         Answer::Stopped { scan } => km_text::stopped(scan, &mut text),
         Answer::Dumped(info) => return dump(&info, sink),
         Answer::Refused(refusal) => km_text::refused(refusal, &mut text),
-        Answer::Done | Answer::Loaded { .. } | Answer::Skipped => {}
+        Answer::At(_) | Answer::Done | Answer::Loaded { .. } | Answer::Skipped => {}
     }
     write_all(sink, text.bytes())
 }

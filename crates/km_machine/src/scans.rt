@@ -30,7 +30,7 @@ pub fn steps<K: Sink>(machine: &mut Machine, n: u64, sink: &mut K) -> Result<(),
     ensures spent { Spent machine.old.core machine.new.core machine.old.words machine.new.words n 0 }
 {
     let last = step_on(machine, n);
-    put(last, sink)
+    print::answer(last, sink)
 }
 
 /// Scanner steps until no scan runs; one, which is refused, if none ran.
@@ -40,7 +40,7 @@ pub fn finish<K: Sink>(machine: &mut Machine, sink: &mut K) -> Result<(), Failed
     ensures spent { Spent machine.old.core machine.new.core machine.old.words machine.new.words (2 ^ 25) 0 }
 {
     let last = step_on(machine, MOST_STEPS);
-    put(last, sink)
+    print::answer(last, sink)
 }
 
 /// A whole scan, if none runs.
@@ -51,7 +51,7 @@ pub fn scan<K: Sink>(machine: &mut Machine, sink: &mut K) -> Result<(), Failed>
 {
     let begun = machine.event(Act::File(FileCmd::Scan));
     let last = scan_on(machine, begun);
-    put(last, sink)
+    print::answer(last, sink)
 }
 
 /// Moves time by so many milliseconds, over the automatic scans that fall due.
@@ -147,13 +147,6 @@ fn step_on(machine: &mut Machine, most: u64) -> Answer
     Answer::Done
 }
 
-/// Writes what an answer prints. None of these is an address, so that the word isn't written.
-fn put<K: Sink>(answer: Answer, sink: &mut K) -> Result<(), Failed>
-    ensures { WritesAll (K.state sink.old) (K.state sink.new) (shown answer) result }
-{
-    print::answer(b"step", answer, sink)
-}
-
 /// Writes what an answer prints, unless an earlier write failed.
 fn put_behind<K: Sink>(
     written: Result<(), Failed>,
@@ -163,5 +156,5 @@ fn put_behind<K: Sink>(
     ensures { (k : SinkState) (text : List ℕ) → WritesAll k (K.state sink.old) text written → WritesAll k (K.state sink.new) (text ++ shown answer) result }
 {
     written?;
-    put(answer, sink)
+    print::answer(answer, sink)
 }

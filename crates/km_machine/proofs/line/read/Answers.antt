@@ -1,5 +1,4 @@
-use Rattle.std.proofs.Common.{◌≡◌, codes, sym, subst}
-use Rattle.km_base.specs.declared.acts.Act.TheVariants as act
+use Rattle.std.proofs.Common.{sym, subst}
 use Rattle.km_edge.specs.Streams.{WritesAll}
 use Rattle.km_base.specs.declared.lines.Command.TheVariants as command
 use Rattle.km_machine.specs.Machines.{RunsLine}
@@ -23,6 +22,6 @@ returns-in_default g c =
     let e = c.event.ensures in
     record {
       runs = λ run f. reads m.core c.event.new.self.core m.words c.event.new.self.words run k k' c.answer.result c.event.result f (e.happens run f) (e.answer run f)
-          (subst (λ t. WritesAll k k' t c.answer.result) (read_text run.memory (codes "read") run c.event.result c.in_default.not-Done (e.answer run f)) (c.answer.ensures run.memory run.history act.Step (λ (x : act.Step ≡ act.Read). let z : ⊥ = cc in z)));
+          (subst (λ t. WritesAll k k' t c.answer.result) (read_text run.memory run c.event.result c.in_default.not-Done (e.answer run f)) c.answer.ensures);
       spent = e.spent;
     }

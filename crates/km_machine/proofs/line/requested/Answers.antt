@@ -2,9 +2,10 @@ use Rattle.std.proofs.Common.{◌∙◌, ◌∷◌, Ok, ap, sym, subst, arith}
 use Rattle.km_edge.specs.Streams.{WritesAll}
 use Rattle.km_model.specs.Follows.{all_happen, happens, told_answer}
 use Rattle.km_model.specs.Output.{answer_text, keyword}
+use Rattle.km_model.specs.Text.{at_text}
 use Rattle.km_machine.specs.Lines.{SoFar}
 use Rattle.km_machine.specs.Machines.{Spent}
-use Rattle.km_machine.proofs.Lines.{allocation_plain, begun, further_at, is_place, none_further, not_at, one_more, plain_ran, request_unread, request_ticks, spent_less}
+use Rattle.km_machine.proofs.Lines.{allocation_plain, at_is, begun, further_at, is_place, none_further, not_at, one_more, plain_ran, request_unread, request_ticks, shown_is, spent_less}
 use Rattle.km_machine.proofs.line.requested.Goals as goal
 
 pub returns-in-At-clause-runs : goal.returns-in-At-clause-runs
@@ -13,10 +14,11 @@ returns-in-At-clause-runs g c = λ run f first.
     let line = c.args.command.now in
     let act = c.args.act in
     let k = g.K.Sink.state c.args.sink.now in
-    let k' = g.K.Sink.state c.answer-written.new.sink in
+    let k' = g.K.Sink.state c.address-written.new.sink in
     let e = c.event-answer.ensures in
-    let text = subst (λ w. WritesAll k k' (answer_text run.memory w run.history act c.event-answer.result) c.answer-written.result) c.keyword.ensures.word (c.answer-written.ensures run.memory run.history act (request_unread act c.requires.request)) in
-    let one = one_more (keyword line) run run m.core c.event-answer.new.self.core m.words c.event-answer.new.self.words k k k' (Ok tt) c.answer-written.result act c.event-answer.result
+    let words = at_is run.memory (keyword line) run.history act c.in-At.start ∙ ap (answer_text run.memory (keyword line) run.history act) (sym c.in-At.is) in
+    let text = subst (λ t. WritesAll k k' t c.address-written.result) words (subst (λ w. WritesAll k k' (at_text w c.in-At.start) c.address-written.result) c.keyword.ensures.word c.address-written.ensures) in
+    let one = one_more (keyword line) run run m.core c.event-answer.new.self.core m.words c.event-answer.new.self.words k k k' (Ok tt) c.address-written.result act c.event-answer.result
     (begun (keyword line) m.core m.words run k f) (e.happens run f) (e.answer run f) text in
     let newest = ap (λ x. record { act = act; answer = x } ∷ run.history) (sym (e.answer run f) ∙ c.in-At.is) in
     plain_ran c.acts.new.machine.core c.acts.new.machine.words run line k (g.K.Sink.state c.acts.new.sink) c.acts.result act (allocation_plain line c.requires.allocation) first
@@ -30,16 +32,17 @@ returns-in_default g c =
     let line = c.args.command.now in
     let act = c.args.act in
     let k = g.K.Sink.state c.args.sink.now in
-    let k' = g.K.Sink.state c.answer-written.new.sink in
+    let k' = g.K.Sink.state c.answer.new.sink in
     let e = c.event-answer.ensures in
     record {
       runs = λ run f first.
-          let text = subst (λ w. WritesAll k k' (answer_text run.memory w run.history act c.event-answer.result) c.answer-written.result) c.keyword.ensures.word (c.answer-written.ensures run.memory run.history act (request_unread act c.requires.request)) in
-          let one = one_more (keyword line) run run m.core c.event-answer.new.self.core m.words c.event-answer.new.self.words k k k' (Ok tt) c.answer-written.result act c.event-answer.result
+          let place = not_at c.event-answer.result c.in_default.not-At in
+          let none = sym (ap is_place (e.answer run f)) ∙ place in
+          let text = subst (λ t. WritesAll k k' t c.answer.result) (shown_is run.memory (keyword line) run.history act c.event-answer.result (request_unread act c.requires.request) place) c.answer.ensures in
+          let one = one_more (keyword line) run run m.core c.event-answer.new.self.core m.words c.event-answer.new.self.words k k k' (Ok tt) c.answer.result act c.event-answer.result
           (begun (keyword line) m.core m.words run k f) (e.happens run f) (e.answer run f) text in
-          let none = sym (ap is_place (e.answer run f)) ∙ not_at c.event-answer.result c.in_default.not-At in
-          plain_ran c.event-answer.new.self.core c.event-answer.new.self.words run line k k' c.answer-written.result act (allocation_plain line c.requires.allocation) first
-          (subst (λ l. SoFar (keyword line) run (all_happen (happens run act) l) c.event-answer.new.self.core c.event-answer.new.self.words k k' c.answer-written.result)
+          plain_ran c.event-answer.new.self.core c.event-answer.new.self.words run line k k' c.answer.result act (allocation_plain line c.requires.allocation) first
+          (subst (λ l. SoFar (keyword line) run (all_happen (happens run act) l) c.event-answer.new.self.core c.event-answer.new.self.words k k' c.answer.result)
           (sym (none_further run.history act (told_answer run act) line none)) one);
       spent = spent_less m.core c.event-answer.new.self.core m.words c.event-answer.new.self.words 1 16384 (subst (λ t. Spent m.core c.event-answer.new.self.core m.words c.event-answer.new.self.words 1 t) (request_ticks act c.requires.request) e.spent) (omega arith);
     }

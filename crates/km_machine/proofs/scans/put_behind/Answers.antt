@@ -7,4 +7,4 @@ use Rattle.km_machine.proofs.scans.put_behind.Goals as goal
 pub returns : goal.returns
 returns g c = λ k text writes.
     let before = g.K.Sink.state c.args.sink.now in
-    writes_behind k before (g.K.Sink.state c.put.new.sink) text (shown c.args.answer) c.put.result (subst (λ r. WritesAll k before text r) (c.in_ok-written.was {u = tt}) writes) c.put.ensures
+    writes_behind k before (g.K.Sink.state c.answer.new.sink) text (shown c.args.answer) c.answer.result (subst (λ r. WritesAll k before text r) (c.in_ok-written.was {u = tt}) writes) c.answer.ensures

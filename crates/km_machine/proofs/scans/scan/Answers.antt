@@ -13,10 +13,10 @@ returns-clause-runs g c = λ run stands.
     let answered = e.answer run stands in
     let s = c.scan_on-last.ensures.scanned run.history (happens run (act.File word.Scan)) (e.happens run stands) (ap Some (sym answered)) (goes_scan run _ answered) in
     let k = g.K.Sink.state c.args.sink.now in
-    let k' = g.K.Sink.state c.put.new.sink in
+    let k' = g.K.Sink.state c.answer.new.sink in
     record {
       behind = s.behind;
       makes = s.makes;
       stands = s.stands;
-      wrote = subst (λ t. WritesAll k k' t c.put.result) (sym (goes_text run.memory run.history s.behind.history _ s.goes)) c.put.ensures;
+      wrote = subst (λ t. WritesAll k k' t c.answer.result) (sym (goes_text run.memory run.history s.behind.history _ s.goes)) c.answer.ensures;
     }

@@ -7,10 +7,10 @@ pub returns-clause-runs : goal.returns-clause-runs
 returns-clause-runs g c = λ run stands.
     let s = c.step_on-last.ensures.stepped run stands in
     let k = g.K.Sink.state c.args.sink.now in
-    let k' = g.K.Sink.state c.put.new.sink in
+    let k' = g.K.Sink.state c.answer.new.sink in
     record {
       behind = s.behind;
       makes = s.makes;
       stands = s.stands;
-      wrote = subst (λ t. WritesAll k k' t c.put.result) (sym (goes_text run.memory run.history s.behind.history _ s.goes)) c.put.ensures;
+      wrote = subst (λ t. WritesAll k k' t c.answer.result) (sym (goes_text run.memory run.history s.behind.history _ s.goes)) c.answer.ensures;
     }
