@@ -12,12 +12,12 @@ use Rattle.km_model.specs.Output.{Script, Fresh, Begun, Prints, IsRun, is_fresh,
 use Rattle.km_model.specs.Text.{not_a_command_text}
 use Rattle.km_edge.specs.Streams.{SourceState, SinkState, Rose, Wrote, StoppedAt}
 use Rattle.km_edge.proofs.Writing.{came_out_more, rose_later, wrote_more, wrote_out}
-use Rattle.km_machine.specs.declared.machine.Machine.{Machine}
 use Rattle.km_reader.specs.Causes.{EndsWithin}
 use Rattle.km_reader.specs.Lines.{IsPrefix, lines_within}
 use Rattle.km_reader.proofs.Calls.{AllGiven, FewAfter, LimitGiven, NextIs, WholeGiven}
 use Rattle.km_forms.specs.Lines.{Refuses}
 use Rattle.km_forms.proofs.Limits.{end_beyond, end_within}
+use Rattle.km_machine.specs.Machines.{Simulation}
 use Rattle.km_engine.specs.Session.{Session, Place, HasLed}
 use Rattle.km_engine.specs.Outcome.{EndsBehindMemory, scripts}
 use Rattle.km_engine.specs.Steps.{EndsAt, EndsRun, Ran, RunsScript, StaysLed}
@@ -49,7 +49,7 @@ stopped_within taken written text n lines more l p end ran cut prints =
     }
 
 -- the text of a line stopped at a fault
-ends_stopped : (P : List ℕ → Type 0) (s0 s' : SourceState) (k0 k k' : SinkState) (machine : Option Machine) (lines : List (List ℕ)) (written text : List ℕ) (n : ℕ) (p : Place) (end : Script)
+ends_stopped : (P : List ℕ → Type 0) (s0 s' : SourceState) (k0 k k' : SinkState) (machine : Option Simulation) (lines : List (List ℕ)) (written text : List ℕ) (n : ℕ) (p : Place) (end : Script)
     → Standing s0 s' k0 k lines written p → NextIs P s0 s' limit lines → ((l : List ℕ) → P l → Prints p.script p.number (l ∷ []) end text) → StoppedAt k k' text n
     → RunsScript s0 s' k0 k' machine status.WriteFault
 ends_stopped P s0 s' k0 k k' machine lines written text n p end st next prints stopped =
@@ -129,7 +129,7 @@ blank_lines lines written p ran fresh =
     (subst (λ out. Prints Fresh 1 lines p.script out) (ran.still_fresh fresh) (prints_all lines written p ran))
 
 -- there was no memory for the first command's
-ends_short : (s0 s' : SourceState) (k0 k k' : SinkState) (machine : Option Machine) (lines : List (List ℕ)) (written l : List ℕ) (words : ℕ) (p : Place)
+ends_short : (s0 s' : SourceState) (k0 k k' : SinkState) (machine : Option Simulation) (lines : List (List ℕ)) (written l : List ℕ) (words : ℕ) (p : Place)
     → Standing s0 s' k0 k lines written p → (next : NextIs (λ x. x ≡ l) s0 s' limit lines) → FewAfter next.taken (lines ++ l ∷ []) → is_fresh p.script ≡ true
     → line_of true l ≡ Ok (line.Command (Memory words)) → Wrote k k' [] → RunsScript s0 s' k0 k' machine status.NoMemory
 ends_short s0 s' k0 k k' machine lines written l words p st next few fresh is_memory wrote =
@@ -203,7 +203,7 @@ ends_line s0 s' k0 k k' script lines written l p ended st next stop led =
     ends_read s0 s' k0 k k' script lines written l p (line_of (is_fresh p.script) l) ended st next.0 next.1 refl stop led
 
 -- the input ended, and all of its lines were run
-pub ends_all : (s0 s' : SourceState) (k0 k : SinkState) (machine : Option Machine) (lines : List (List ℕ)) (written : List ℕ) (p : Place)
+pub ends_all : (s0 s' : SourceState) (k0 k : SinkState) (machine : Option Simulation) (lines : List (List ℕ)) (written : List ℕ) (p : Place)
     → Standing s0 s' k0 k lines written p → HasLed machine p.script → AllGiven s0 s' limit lines → RunsScript s0 s' k0 k machine status.Ok
 ends_all s0 s' k0 k machine lines written p st led given =
     let run : IsRun given.taken p.script written = subst (λ ls. Prints Fresh 1 ls p.script written) (sym given.all) (prints_all lines written p st.ran) in
@@ -227,7 +227,7 @@ ends_all s0 s' k0 k machine lines written p st led given =
     }
 
 -- a read failed
-pub ends_fault : (s0 s s' : SourceState) (k0 k : SinkState) (machine : Option Machine) (lines : List (List ℕ)) (written : List ℕ) (p : Place)
+pub ends_fault : (s0 s s' : SourceState) (k0 k : SinkState) (machine : Option Simulation) (lines : List (List ℕ)) (written : List ℕ) (p : Place)
     → Standing s0 s k0 k lines written p → WholeGiven s0 s' lines → Rose s.faults s'.faults → RunsScript s0 s' k0 k machine status.ReadFault
 ends_fault s0 s s' k0 k machine lines written p st given rose = record {
   run = record {
@@ -246,7 +246,7 @@ ends_fault s0 s s' k0 k machine lines written p st given rose = record {
 }
 
 -- the input is longer than a script may be
-pub ends_long : (s0 s' : SourceState) (k0 k : SinkState) (machine : Option Machine) (lines : List (List ℕ)) (written : List ℕ) (p : Place)
+pub ends_long : (s0 s' : SourceState) (k0 k : SinkState) (machine : Option Simulation) (lines : List (List ℕ)) (written : List ℕ) (p : Place)
     → Standing s0 s' k0 k lines written p → LimitGiven s0 s' limit lines → RunsScript s0 s' k0 k machine status.TooLong
 ends_long s0 s' k0 k machine lines written p st given = record {
   run = record {

@@ -11,22 +11,21 @@ use Rattle.km_base.specs.declared.status.Status.{Status}
 use Rattle.km_base.specs.declared.status.Status.TheVariants as status
 use Rattle.km_model.specs.Follows.{Run, first_run}
 use Rattle.km_model.specs.Output.{Script, Fresh, Begun, LeadsLine, is_fresh, line_text}
-use Rattle.km_machine.specs.declared.machine.Machine.{Machine}
-use Rattle.km_machine.specs.Machines.{For}
+use Rattle.km_machine.specs.Machines.{For, Simulation}
 use Rattle.km_machine.specs.Machines.{RunsLine as MachineRuns}
 use Rattle.km_engine.specs.Session.{HasLed, Place, Session}
 use Rattle.km_engine.specs.Steps.{EndsRun, RanOn, StaysLed}
 
 -- there is a machine where a script has begun
-pub fresh_as : (machine : Option Machine) (m : Script) → HasLed machine m → is_none machine ≡ is_fresh m
+pub fresh_as : (machine : Option Simulation) (m : Script) → HasLed machine m → is_none machine ≡ is_fresh m
 fresh_as None Fresh led = refl
 fresh_as None (Begun run) led = absurd led
 fresh_as (Some x) Fresh led = absurd led
 fresh_as (Some x) (Begun run) led = refl
 
 -- `memory` makes a machine
-pub memory_runs : (machine : Machine) (old : Option Machine) (m : Script) (l : Line) (c : Command) (k : SinkState) → HasLed old m → old ≡ None → l ≡ line.Command c
-    → c ≡ Memory machine.core.parts.words → For machine.core machine.words (first_run machine.core.parts.words) → RanOn (Some machine) m l k k
+pub memory_runs : (machine : Simulation) (old : Option Simulation) (m : Script) (l : Line) (c : Command) (k : SinkState) → HasLed old m → old ≡ None → l ≡ line.Command c
+    → c ≡ Memory machine.core.parts.words → For machine (first_run machine.core.parts.words) → RanOn (Some machine) m l k k
 memory_runs machine None Fresh l c k led none is asked stands =
     let next : Script = Begun (first_run machine.core.parts.words) in
     record {
@@ -40,8 +39,8 @@ memory_runs machine None (Begun run) l c k led none is asked stands = absurd led
 memory_runs machine (Some x) m l c k led none is asked stands = absurd (cc)
 
 -- a later line
-pub later_runs : (machine next : Machine) (m : Script) (c : Command) (k k' : SinkState) → HasLed (Some machine) m
-    → ((run : Run) → For machine.core machine.words run → MachineRuns next.core next.words run c k k' (Ok tt))
+pub later_runs : (machine next : Simulation) (m : Script) (c : Command) (k k' : SinkState) → HasLed (Some machine) m
+    → ((run : Run) → For machine run → MachineRuns next run c k k' (Ok tt))
     → RanOn (Some next) m (line.Command c) k k'
 later_runs machine next Fresh c k k' led runs = absurd led
 later_runs machine next (Begun run) c k k' led runs =
@@ -55,8 +54,8 @@ later_runs machine next (Begun run) c k k' led runs =
     }
 
 -- a later line whose text stops at a fault
-pub later_ends : (machine next : Machine) (m : Script) (c : Command) (k k' : SinkState) (failed : Failed) → HasLed (Some machine) m
-    → ((run : Run) → For machine.core machine.words run → MachineRuns next.core next.words run c k k' (Err failed))
+pub later_ends : (machine next : Simulation) (m : Script) (c : Command) (k k' : SinkState) (failed : Failed) → HasLed (Some machine) m
+    → ((run : Run) → For machine run → MachineRuns next run c k k' (Err failed))
     → EndsRun m (line.Command c) k k' status.WriteFault
 later_ends machine next Fresh c k k' failed led runs = absurd led
 later_ends machine next (Begun run) c k k' failed led runs =

@@ -12,7 +12,7 @@ use Rattle.km_track.specs.Tracker.{AreRising, Live, Tracker, id_of, is_id, is_li
 use Rattle.km_track.proofs.Lives.{finds_it}
 use Rattle.km_verdict.specs.Listing.{behind, listed_in}
 use Rattle.km_verdict.proofs.Listings.{behind_its}
-use Rattle.km_machine.specs.declared.machine.Machine.{Machine}
+use Rattle.km_machine.specs.Machines.{Simulation}
 use Rattle.km_engine.specs.Bench.{listed_at}
 use Rattle.km_engine.specs.Session.{HasLed}
 
@@ -121,10 +121,10 @@ pub counting_ends : (t : Tracker) (next : Option RecId) (count : ℕ) → Counti
 counting_ends t next count w e = omega (arith, w.counted, none_listed w.rest (sym e ∙ w.at))
 
 -- what is listed of a machine is listed where the lines led that it stands for
-pub listed_stands : (machine : Option Machine) (led : Script) (m : Machine) (count : ℕ) → machine ≡ Some m → HasLed machine led → count ≡ length (listing_in (tracked_in m.core.parts.objects.tracker)) → count ≡ listed_at led
+pub listed_stands : (machine : Option Simulation) (led : Script) (m : Simulation) (count : ℕ) → machine ≡ Some m → HasLed machine led → count ≡ length (listing_in (tracked_in m.core.parts.objects.tracker)) → count ≡ listed_at led
 listed_stands None led m count is has e = absurd (let z : ⊥ = cc in z)
 listed_stands (Some x) Fresh m count is has e = absurd has
 listed_stands (Some x) (Begun run) m count is has e =
     let same : m ≡ x = cc in
-    e ∙ ap (λ (y : Machine). length (listing_in (tracked_in y.core.parts.objects.tracker))) same
+    e ∙ ap (λ (y : Simulation). length (listing_in (tracked_in y.core.parts.objects.tracker))) same
     ∙ ap length (sym (ap listing_in has.stands.parts.objects.tracked) ∙ listing_stands x.core.parts.words run.history has.state has.stands.history)

@@ -7,7 +7,6 @@ use Rattle.km_model.specs.Grammar.{line_of}
 use Rattle.km_model.specs.Output.{is_fresh, limit}
 use Rattle.km_edge.specs.Streams.{SourceState, SinkState, Rose, Wrote}
 use Rattle.km_edge.proofs.Writing.{wrote_none, wrote_more}
-use Rattle.km_machine.specs.declared.machine.Machine.{Machine}
 use Rattle.km_reader.specs.declared.reader.Next.TheVariants as next
 use Rattle.km_reader.specs.Causes.{AtMemory, EndsAsTold, EndsOver}
 use Rattle.km_reader.specs.Reading.{Input, Is, Step, line_in, rest_in, unread}
@@ -16,6 +15,7 @@ use Rattle.km_reader.proofs.Caused.{ends_as_told, ends_over, has_cause}
 use Rattle.km_forms.specs.Checks.{cause_of}
 use Rattle.km_forms.specs.Lines.{Refuses}
 use Rattle.km_forms.proofs.Limits.{long_is_refused}
+use Rattle.km_machine.specs.Machines.{Simulation}
 use Rattle.km_engine.specs.Session.{Session, Place, StandsAt, HasRoomFor, start, first_place}
 use Rattle.km_engine.specs.Outcome.{scripts}
 use Rattle.km_engine.specs.Steps.{EndsAt, Ran, RanOn, RunsScript, StaysLed, TakesRoom}
@@ -167,7 +167,7 @@ running_beyond s0 s s' k0 k script reader reader' r step is kept =
     (limit_given s0 s s' reader reader' limit r.lines r.between step is)
 
 -- the run as its contract says it
-pub run_ends : (s s' : SourceState) (k k' : SinkState) (ended : Status) (bytes : List ℕ) (machine : Option Machine) → RunsScript s s' k k' machine ended → s.left ≡ Some bytes
+pub run_ends : (s s' : SourceState) (k k' : SinkState) (ended : Status) (bytes : List ℕ) (machine : Option Simulation) → RunsScript s s' k k' machine ended → s.left ≡ Some bytes
     → EndsOver scripts bytes s s' k k' ended
 run_ends s s' k k' ended bytes machine r told = ends_over scripts s s' k k' ended bytes r.run told
 
@@ -186,5 +186,5 @@ pub run_exact : (s s' : SourceState) (k k' : SinkState) (ended : Status) (bytes 
 run_exact s s' k k' ended bytes e r w m = ends_as_told scripts s s' k k' ended bytes e r w (λ short. m (short_of_memory ended short))
 
 -- words of the form are not bad ones, whatever the source tells
-pub never_bad : (s s' : SourceState) (k k' : SinkState) (machine : Option Machine) (ended : Status) (n : ℕ) → RunsScript s s' k k' machine ended → ended ≡ status.BadWords n → ⊥
+pub never_bad : (s s' : SourceState) (k k' : SinkState) (machine : Option Simulation) (ended : Status) (n : ℕ) → RunsScript s s' k k' machine ended → ended ≡ status.BadWords n → ⊥
 never_bad s s' k k' machine ended n r bad = has_cause scripts s s' k k' ended r.run (ap cause_of bad)

@@ -9,7 +9,7 @@ use Rattle.km_gen.specs.Generated.{generated_script}
 use Rattle.km_base.specs.declared.status.Status.{Status}
 use Rattle.km_base.specs.declared.status.Status.TheVariants as status
 use Rattle.km_model.specs.Output.{Script, IsRun, limit}
-use Rattle.km_machine.specs.declared.machine.Machine.{Machine}
+use Rattle.km_machine.specs.Machines.{Simulation}
 use Rattle.km_engine.specs.Bench.{BenchEnds, SumsUp, held_state, listed_at}
 use Rattle.km_reader.specs.Causes.{Ends}
 use Rattle.km_engine.specs.Outcome.{scripts}
@@ -27,7 +27,7 @@ none_rose (inl less) = omega (arith, less)
 none_rose (inr full) = omega (arith, full)
 
 -- where neither side fails and the script is short enough, only want of memory keeps a run from its end
-led_at : (machine : Option Machine) (bytes taken written : List ℕ) (s s' : SourceState) (k k' : SinkState) (ended : Status) → Ends scripts bytes taken written s s' k k' ended
+led_at : (machine : Option Simulation) (bytes taken written : List ℕ) (s s' : SourceState) (k k' : SinkState) (ended : Status) → Ends scripts bytes taken written s s' k k' ended
     → ¬ Rose s.faults s'.faults → ¬ Rose k.faults k'.faults → length taken ≤ limit → ¬ (ended ≡ status.NoMemory) → LedTo machine bytes written ended → LeadsTo machine bytes written
 led_at machine bytes taken written s s' k k' status.Ok e r w short m led = led
 led_at machine bytes taken written s s' k k' (status.NotACommand _ _) e r w short m led = led
@@ -38,7 +38,7 @@ led_at machine bytes taken written s s' k k' (status.BadWords _) e r w short m l
 led_at machine bytes taken written s s' k k' status.TooLong e r w short m led = let long = e.0 in absurd (omega (arith, long, short))
 
 -- the summary of such a run
-pub sums_up : (number steps feeds listed before after count : ℕ) (script rest : List ℕ) (machine : Option Machine) (ended : Status)
+pub sums_up : (number steps feeds listed before after count : ℕ) (script rest : List ℕ) (machine : Option Simulation) (ended : Status)
     → RunsScript (held_state script) (held_state rest) (count_state before) (count_state after) machine ended → ¬ (ended ≡ status.NoMemory) → before ≡ 0 → count ≡ after
     → script ≡ generated_script number steps → steps ≤ 1000000 → length script ≤ 81 + 38 * steps → feeds ≡ count_by is_line_feed script
     → ((end : Script) → HasLed machine end → listed ≡ listed_at end) → SumsUp number steps (record { lines = feeds; bytes = count; listed = listed })

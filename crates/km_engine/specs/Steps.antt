@@ -13,8 +13,8 @@ use Rattle.km_model.specs.Output.{Script, Fresh, IsRun, Prints, LeadsLine, is_fr
 use Rattle.km_edge.specs.Streams.{SourceState, SinkState, Wrote, StoppedAt}
 use Rattle.km_reader.specs.Causes.{EndsFrom}
 use Rattle.km_reader.specs.Lines.{IsLeft}
-use Rattle.km_machine.specs.declared.machine.Machine.{Machine}
 use Rattle.km_machine.specs.Lines.{IsFew, is_memory}
+use Rattle.km_machine.specs.Machines.{Simulation}
 use Rattle.km_engine.specs.Session.{Session, Place, HasLed, StandsAt, HasRoomFor}
 use Rattle.km_engine.specs.Outcome.{scripts}
 use Rattle.km_forms.specs.Lines.{Refuses}
@@ -41,7 +41,7 @@ EndsRun m l k k' status.NoMemory = Wrote k k' [] × (is_fresh m ≡ true) × IsM
 EndsRun m l k k' _ = ⊥
 
 -- a line that was read was run: a machine, if there is one, stands for what the line led to, and the line's text was written
-pub record RanOn (machine : Option Machine) (m : Script) (l : Line) (k k' : SinkState) : Type 0 where
+pub record RanOn (machine : Option Simulation) (m : Script) (l : Line) (k k' : SinkState) : Type 0 where
   pub next : Script
   pub text : List ℕ
   pub leads : LeadsLine m l next text
@@ -49,7 +49,7 @@ pub record RanOn (machine : Option Machine) (m : Script) (l : Line) (k k' : Sink
   pub wrote : Wrote k k' text
 
 -- a line that was read is run
-abbrev pub Runs : Option Machine → Option Machine → Line → SinkState → SinkState → Result (Unit {0}) Status → Type 0
+abbrev pub Runs : Option Simulation → Option Simulation → Line → SinkState → SinkState → Result (Unit {0}) Status → Type 0
 Runs old new l k k' result = (m : Script) → HasLed old m → MatchResult result (λ _. RanOn new m l k k') (EndsRun m l k k')
 
 -- how a line ends a run, as it was read
@@ -83,16 +83,16 @@ pub record Ran (lines : List (List ℕ)) (written : List ℕ) (q : Place) : Type
   pub still_fresh : is_fresh q.script ≡ true → written ≡ []
 
 -- bytes lead to a text, and a machine, if there is one, stands for where they lead
-abbrev pub LeadsTo : Option Machine → List ℕ → List ℕ → Type 0
+abbrev pub LeadsTo : Option Simulation → List ℕ → List ℕ → Type 0
 LeadsTo machine bytes out = (end : Script) × IsRun bytes end out × HasLed machine end
 
 -- where a run comes to the end of its lines, or to one that is no command, its machine stands for where they led
-abbrev pub LedTo : Option Machine → List ℕ → List ℕ → Status → Type 0
+abbrev pub LedTo : Option Simulation → List ℕ → List ℕ → Status → Type 0
 LedTo machine bytes out status.Ok = LeadsTo machine bytes out
 LedTo machine bytes out (status.NotACommand _ _) = LeadsTo machine bytes out
 LedTo machine bytes out _ = Unit {0}
 
 -- a run over what a source gives
-pub record RunsScript (s s' : SourceState) (k k' : SinkState) (machine : Option Machine) (ended : Status) : Type 0 where
+pub record RunsScript (s s' : SourceState) (k k' : SinkState) (machine : Option Simulation) (ended : Status) : Type 0 where
   pub run : EndsFrom scripts s s' k k' ended
   pub led : (remaining : List ℕ) → IsLeft s'.left remaining → LedTo machine (run.taken ++ remaining) run.written ended

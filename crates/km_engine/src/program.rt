@@ -10,7 +10,7 @@ ghost use Rattle.km_engine.specs.Headline.{Headline};
 ghost use Rattle.km_engine.specs.Outcome.{scripts};
 ghost use Rattle.km_engine.specs.Steps.{RunsScript};
 ghost use Rattle.km_reader.specs.Causes.{EndsAsTold, EndsFrom, EndsOver};
-ghost use Rattle.km_machine.specs.declared.machine.Machine.{Machine};
+ghost use Rattle.km_machine.specs.Machines.{Simulation};
 
 use crate::bench::bench;
 use crate::reading::run_from;
@@ -22,7 +22,7 @@ use std::alloc::Global;
 
 /// Reads and runs a script from its first line.
 fn run_script<S: Source, K: Sink>(alloc: Global, source: &mut S, sink: &mut K) -> Status
-    ensures { (machine : Option Machine) × RunsScript (S.state source.old) (S.state source.new) (K.state sink.old) (K.state sink.new) machine result }
+    ensures { (machine : Option Simulation) × RunsScript (S.state source.old) (S.state source.new) (K.state sink.old) (K.state sink.new) machine result }
 {
     let mut script = Script::new();
     run_from(&mut script, alloc, source, sink)

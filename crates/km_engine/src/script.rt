@@ -67,7 +67,7 @@ impl Script {
         ensures { (led : Led) → HasLed self.now.machine led → result ≡ listed_at led }
     {
         match &self.machine {
-            Some(machine) => listed(machine.core.track()),
+            Some(machine) => listed(machine.core().track()),
             None => 0,
         }
     }
@@ -121,9 +121,9 @@ fn run<K: Sink>(
 /// Makes the machine that the first command asks for.
 fn boot(alloc: Global, command: Command) -> Result<Machine, Status>
     requires { IsFit true command }
-    ensures stands { IfOk result (λ m. For m.core m.words (first_run m.core.parts.words)) }
+    ensures stands { IfOk result (λ m. For m (first_run m.core.parts.words)) }
     ensures asked { IfOk result (λ m. command ≡ Memory m.core.parts.words) }
-    ensures size { IfOk result (λ m. length m.words ≡ m.core.parts.words) }
+    ensures size { IfOk result (λ m. length m.memory ≡ m.core.parts.words) }
     ensures err { IfErr result (λ status. (status ≡ Status.NoMemory) × IsMemory (Line.Command command)) }
 {
     let Command::Memory(words) = command else {

@@ -31,8 +31,7 @@ use Rattle.km_model.specs.Placement.{slot_of_area}
 use Rattle.km_model.specs.Expansion.{Acts, Makes, for_register, slot_word, vfree_acts, acts_behind, behind_acts, behind_line, first_acts, further_acts, world_after}
 use Rattle.km_model.specs.Output.{answer_text, events_text, keyword, line_text, listing_text, print_text, print_value}
 use Rattle.km_model.specs.Text.{at_text, refusal_text, value_text}
-use Rattle.km_core.specs.Cores.{Seen}
-use Rattle.km_machine.specs.Machines.{For, RunsLine, Spent}
+use Rattle.km_machine.specs.Machines.{Simulation, For, RunsLine, Spent}
 use Rattle.km_machine.specs.Scans.{shown}
 use Rattle.km_machine.specs.Lines.{Gave, IsGiven, SoFar, is_alone, is_allocation, is_request, is_simple}
 
@@ -169,14 +168,14 @@ request_ticks (act.Tick n) e = absurd (cc)
 request_ticks a e = refl
 
 -- a line begins
-abbrev pub begun : (word : List ℕ) (core : Seen) (told : List ℕ) (run : Run) (k : SinkState) → For core told run → SoFar word run run core told k k (Ok tt)
-begun word core told run k f = record { stands = f; count = 0; grown = (omega arith); wrote = wrote_none k }
+abbrev pub begun : (word : List ℕ) (machine : Simulation) (run : Run) (k : SinkState) → For machine run → SoFar word run run machine k k (Ok tt)
+begun word machine run k f = record { stands = f; count = 0; grown = (omega arith); wrote = wrote_none k }
 
 -- one event more
-pub one_more : (word : List ℕ) (first run : Run) (core next : Seen) (told after : List ℕ) (k k' k'' : SinkState) (written result : Result (Unit {0}) Failed) (a : Act) (given : Answer)
-    → (s : SoFar word first run core told k k' written) → For next after (happens run a) → given ≡ told_answer run a
-    → WritesAll k k'' (events_text first.memory word s.count run.history ++ answer_text first.memory word run.history a given) result → SoFar word first (happens run a) next after k k'' result
-one_more word first run core next told after k k' k'' written result a given s f answered wrote = record {
+pub one_more : (word : List ℕ) (first run : Run) (machine next : Simulation) (k k' k'' : SinkState) (written result : Result (Unit {0}) Failed) (a : Act) (given : Answer)
+    → (s : SoFar word first run machine k k' written) → For next (happens run a) → given ≡ told_answer run a
+    → WritesAll k k'' (events_text first.memory word s.count run.history ++ answer_text first.memory word run.history a given) result → SoFar word first (happens run a) next k k'' result
+one_more word first run machine next k k' k'' written result a given s f answered wrote = record {
   stands = f;
   count = suc s.count;
   grown = (let e = s.grown in omega (arith, e));
@@ -215,10 +214,10 @@ line_is count run x c acts first prints grown =
     ∙ ap (λ t. t ++ events_text run.memory (keyword c) (length x.history - length run.history) x.history) prints
     ∙ (let n : length x.history - length run.history ≡ count = omega (arith, grown) in ap (λ n. events_text run.memory (keyword c) n x.history) n)
 
-ran : (next : Seen) (after : List ℕ) (run x : Run) (c : Command) (k k' : SinkState) (result : Result (Unit {0}) Failed) (acts : List Act)
-    → SoFar (keyword c) run x next after k k' result → first_acts (world_after run.history) c ≡ Ok acts → print_text run.history c ≡ [] → Makes run c x
-    → RunsLine next after run c k k' result
-ran next after run x c k k' result acts s first prints makes = record {
+ran : (next : Simulation) (run x : Run) (c : Command) (k k' : SinkState) (result : Result (Unit {0}) Failed) (acts : List Act)
+    → SoFar (keyword c) run x next k k' result → first_acts (world_after run.history) c ≡ Ok acts → print_text run.history c ≡ [] → Makes run c x
+    → RunsLine next run c k k' result
+ran next run x c k k' result acts s first prints makes = record {
   behind = x;
   makes = makes;
   stands = s.stands;
@@ -226,11 +225,11 @@ ran next after run x c k k' result acts s first prints makes = record {
 }
 
 -- a plain line of these acts
-pub plain_ran : (next : Seen) (after : List ℕ) (run : Run) (c : Command) (k k' : SinkState) (result : Result (Unit {0}) Failed) (a : Act) → is_plain c ≡ true → Ok (a ∷ []) ≡ first_acts (world_after run.history) c
-    → SoFar (keyword c) run (all_happen (happens run a) (further_acts (happens run a).history c)) next after k k' result
-    → RunsLine next after run c k k' result
-plain_ran next after run c k k' result a plain first s =
-    ran next after run _ c k k' result (a ∷ []) s (sym first) (plain_prints run.history c plain)
+pub plain_ran : (next : Simulation) (run : Run) (c : Command) (k k' : SinkState) (result : Result (Unit {0}) Failed) (a : Act) → is_plain c ≡ true → Ok (a ∷ []) ≡ first_acts (world_after run.history) c
+    → SoFar (keyword c) run (all_happen (happens run a) (further_acts (happens run a).history c)) next k k' result
+    → RunsLine next run c k k' result
+plain_ran next run c k k' result a plain first s =
+    ran next run _ c k k' result (a ∷ []) s (sym first) (plain_prints run.history c plain)
     (plain_makes run _ c plain (ap (behind_acts run c) (sym first)))
 
 -- nothing is behind what isn't an address
@@ -239,9 +238,9 @@ none_further h a (At x) c e = absurd (cc)
 none_further h a given c e = refl
 
 -- a line that is refused
-pub refused_line : (core : Seen) (told : List ℕ) (run : Run) (c : Command) (k k' : SinkState) (result : Result (Unit {0}) Failed) (r : Refusal) → is_plain c ≡ true → For core told run
-    → Err r ≡ first_acts (world_after run.history) c → WritesAll k k' (refusal_text r) result → RunsLine core told run c k k' result
-refused_line core told run c k k' result r plain f first wrote = record {
+pub refused_line : (machine : Simulation) (run : Run) (c : Command) (k k' : SinkState) (result : Result (Unit {0}) Failed) (r : Refusal) → is_plain c ≡ true → For machine run
+    → Err r ≡ first_acts (world_after run.history) c → WritesAll k k' (refusal_text r) result → RunsLine machine run c k k' result
+refused_line machine run c k k' result r plain f first wrote = record {
   behind = run;
   makes = plain_makes run run c plain (ap (behind_acts run c) (sym first));
   stands = f;
@@ -257,9 +256,9 @@ pub further_at : (h x : History) (a : Act) (start : ℕ) (c : Command) → x ≡
 further_at h x a start c e = subst (λ y. further_acts y c ≡ acts_behind (world_after y) c start) (sym e) refl
 
 -- a line that prints a value
-pub shows : (core : Seen) (told : List ℕ) (run : Run) (o : Operand) (k k' : SinkState) (result : Result (Unit {0}) Failed) (v : ℕ) → For core told run → Ok v ≡ operand_value (world_after run.history) o
-    → WritesAll k k' (value_text v) result → RunsLine core told run (command.Print o) k k' result
-shows core told run o k k' result v f e wrote = record {
+pub shows : (machine : Simulation) (run : Run) (o : Operand) (k k' : SinkState) (result : Result (Unit {0}) Failed) (v : ℕ) → For machine run → Ok v ≡ operand_value (world_after run.history) o
+    → WritesAll k k' (value_text v) result → RunsLine machine run (command.Print o) k k' result
+shows machine run o k k' result v f e wrote = record {
   behind = run;
   makes = ap (λ (r : Result ℕ Refusal). behind_acts run (command.Print o) (then_do r (λ _. Ok []))) (sym e);
   stands = f;
@@ -288,19 +287,19 @@ read_text memory run given never e = by_scan (running_scan (past_of run.history)
   by_scan None e = absurd (never e)
   by_scan (Some k) e = ap shown e ∙ ap (answer_text memory [] run.history act.Read) (sym e)
 
-pub reads : (core next : Seen) (told after : List ℕ) (run : Run) (k k' : SinkState) (result : Result (Unit {0}) Failed) (given : Answer) → For core told run
-    → For next after (happens run act.Read) → given ≡ told_answer run act.Read
-    → WritesAll k k' (answer_text run.memory [] run.history act.Read given) result → RunsLine next after run command.Read k k' result
-reads core next told after run k k' result given f stands answered wrote =
-    ran next after run (happens run act.Read) command.Read k k' result (act.Read ∷ [])
-    (one_more [] run run core next told after k k k' (Ok tt) result act.Read given (begun [] core told run k f) stands answered wrote) refl refl
+pub reads : (machine next : Simulation) (run : Run) (k k' : SinkState) (result : Result (Unit {0}) Failed) (given : Answer) → For machine run
+    → For next (happens run act.Read) → given ≡ told_answer run act.Read
+    → WritesAll k k' (answer_text run.memory [] run.history act.Read given) result → RunsLine next run command.Read k k' result
+reads machine next run k k' result given f stands answered wrote =
+    ran next run (happens run act.Read) command.Read k k' result (act.Read ∷ [])
+    (one_more [] run run machine next k k k' (Ok tt) result act.Read given (begun [] machine run k f) stands answered wrote) refl refl
     (ap (all_happen (happens run act.Read)) (none_further run.history act.Read (told_answer run act.Read) command.Read (no_request run act.Read refl)))
 
-pub lists : (core next : Seen) (told after : List ℕ) (run : Run) (k k' : SinkState) (result : Result (Unit {0}) Failed) → For core told run
-    → For next after (happens run act.Read) → Done ≡ told_answer run act.Read
-    → WritesAll k k' (listing_text (happens run act.Read).memory (happens run act.Read).history) result → RunsLine next after run command.Read k k' result
-lists core next told after run k k' result f stands answered wrote =
-    reads core next told after run k k' result Done f stands answered (subst (λ t. WritesAll k k' t result)
+pub lists : (machine next : Simulation) (run : Run) (k k' : SinkState) (result : Result (Unit {0}) Failed) → For machine run
+    → For next (happens run act.Read) → Done ≡ told_answer run act.Read
+    → WritesAll k k' (listing_text (happens run act.Read).memory (happens run act.Read).history) result → RunsLine next run command.Read k k' result
+lists machine next run k k' result f stands answered wrote =
+    reads machine next run k k' result Done f stands answered (subst (λ t. WritesAll k k' t result)
     (ap (λ x. listing_text run.memory (record { act = act.Read; answer = x } ∷ run.history)) (sym answered) ∙ listed_same run.memory run.history) wrote)
 
 -- an area is given back
@@ -316,11 +315,11 @@ gives_acts : (run : Run) (o : Operand) (a : ℕ) (slot : Option ℕ)
 gives_acts run o a None = let done = all_happen run (act.VmGive a ∷ []) in ap (all_happen done) (none_behind_vfree done.history o)
 gives_acts run o a (Some s) = let done = all_happen run (act.Store (slot_word s) 0 ∷ act.VmGive a ∷ []) in ap (all_happen done) (none_behind_vfree done.history o)
 
-pub gives : (next : Seen) (after : List ℕ) (run : Run) (o : Operand) (k k' : SinkState) (result : Result (Unit {0}) Failed) (a : ℕ) → Ok a ≡ operand_value (world_after run.history) o
-    → SoFar [] run (all_happen run (vfree_acts (world_after run.history) a)) next after k k' result → RunsLine next after run (command.Vfree o) k k' result
-gives next after run o k k' result a e s =
+pub gives : (next : Simulation) (run : Run) (o : Operand) (k k' : SinkState) (result : Result (Unit {0}) Failed) (a : ℕ) → Ok a ≡ operand_value (world_after run.history) o
+    → SoFar [] run (all_happen run (vfree_acts (world_after run.history) a)) next k k' result → RunsLine next run (command.Vfree o) k k' result
+gives next run o k k' result a e s =
     let w = world_after run.history in
-    ran next after run _ (command.Vfree o) k k' result (vfree_acts w a) s (ap (λ (r : Result ℕ Refusal). then_do r (λ x. Ok (vfree_acts w x))) (sym e)) refl
+    ran next run _ (command.Vfree o) k k' result (vfree_acts w a) s (ap (λ (r : Result ℕ Refusal). then_do r (λ x. Ok (vfree_acts w x))) (sym e)) refl
     (ap (λ (r : Result ℕ Refusal). behind_acts run (command.Vfree o) (then_do r (λ x. Ok (vfree_acts w x)))) (sym e)
     ∙ gives_acts run o a (slot_of_area w.used a))
 
@@ -344,8 +343,8 @@ gave c d start r a h is asks given = record {
       (asked_for (world_after given.before) r given.request a (given.first ∙ ap (first_acts (world_after given.before)) is ∙ asks (world_after given.before)));
 }
 
-pub spent_less : (core next : Seen) (memory after : List ℕ) (n m : ℕ) → Spent core next memory after n 0 → n ≤ m → Spent core next memory after m 0
-spent_less core next memory after n m s low = record {
+pub spent_less : (machine next : Simulation) (n m : ℕ) → Spent machine next n 0 → n ≤ m → Spent machine next m 0
+spent_less machine next n m s low = record {
   size = s.size;
   words = s.words;
   events = (let e = s.events in omega (arith, e, low));

@@ -5,7 +5,6 @@ use Rattle.std.proofs.lemmas.List.{append-nil}
 use Rattle.std.proofs.lemmas.List.Concat.{flat_map-cons}
 use Rattle.km_edge.specs.Streams.{SinkState, Wrote}
 use Rattle.km_edge.proofs.Writing.{wrote_more, wrote_none}
-use Rattle.km_core.specs.Cores.{Seen}
 use Rattle.km_core.specs.declared.settings.Settings.{Settings}
 use Rattle.km_laws.specs.Placed.{BlockPlaced, InMemory, WholeWords}
 use Rattle.km_laws.proofs.Laws.{all_is_placed}
@@ -23,7 +22,7 @@ use Rattle.km_track.specs.Tracker.{AreRising, Live, Tracker, id_of, is_id, is_li
 use Rattle.km_track.proofs.Lives.{finds_it}
 use Rattle.km_verdict.specs.Listing.{behind, listed_in}
 use Rattle.km_verdict.proofs.Listings.{behind_its}
-use Rattle.km_machine.specs.Machines.{For}
+use Rattle.km_machine.specs.Machines.{Simulation, For}
 use Rattle.km_machine.proofs.Pieces.{Stops, stops_behind, stops_early}
 
 -- the entries of the listed ones among live blocks
@@ -157,26 +156,26 @@ listing_ends t now memory k k' next w e all =
     subst (λ xs. Wrote k k' xs) (sym (w.text ∙ ap (λ xs. w.done ++ xs) (finds_none now memory w.rest (sym e ∙ w.at)) ∙ append-nil w.done)) (w.wrote all)
 
 -- what a machine's listed blocks print is what a read of its run prints
-pub listing_is : (core : Seen) (told : List ℕ) (run : Run) → For core told run → entries core.parts.settings.now told core.parts.objects.tracker.live ≡ listing_text run.memory run.history
-listing_is core told run f =
+pub listing_is : (machine : Simulation) (run : Run) → For machine run → entries machine.core.parts.settings.now machine.memory machine.core.parts.objects.tracker.live ≡ listing_text run.memory run.history
+listing_is machine run f =
     let history = f.stands.history in
     let w = world (past_of run.history) in
-    let now : core.parts.settings.now ≡ w.now = sym (ap (λ (s : Settings). s.now) f.stands.parts.hosts.settings) ∙ history.moment in
-    ap (λ n. entries n told core.parts.objects.tracker.live) now ∙ ap (λ m. entries w.now m core.parts.objects.tracker.live) f.memory
-    ∙ ap (flat_map (entry w.now run.memory)) (sym (ap listing_in f.stands.parts.objects.tracked) ∙ listing_stands core.parts.words run.history f.state history)
+    let now : machine.core.parts.settings.now ≡ w.now = sym (ap (λ (s : Settings). s.now) f.stands.parts.hosts.settings) ∙ history.moment in
+    ap (λ n. entries n machine.memory machine.core.parts.objects.tracker.live) now ∙ ap (λ m. entries w.now m machine.core.parts.objects.tracker.live) f.memory
+    ∙ ap (flat_map (entry w.now run.memory)) (sym (ap listing_in f.stands.parts.objects.tracked) ∙ listing_stands machine.core.parts.words run.history f.state history)
 
 -- its blocks lie in its memory
-pub all_lie : (core : Seen) (told : List ℕ) (run : Run) → For core told run → LieIn (length told) core.parts.objects.tracker.live
-all_lie core told run f =
-    let t = core.parts.objects.tracker in
+pub all_lie : (machine : Simulation) (run : Run) → For machine run → LieIn (length machine.memory) machine.core.parts.objects.tracker.live
+all_lie machine run f =
+    let t = machine.core.parts.objects.tracker in
     let w = world (past_of run.history) in
     let blocks : blocks_in (tracked_in t) ≡ w.blocks = sym (ap blocks_in f.stands.parts.objects.tracked) ∙ f.stands.history.blocks in
-    let placed = all_is_placed core.parts.words run.history f.size f.stands.follows in
-    let size : length told ≡ core.parts.words = f.whole in
+    let placed = all_is_placed machine.core.parts.words run.history f.size f.stands.follows in
+    let size : length machine.memory ≡ machine.core.parts.words = f.whole in
     let each = subst (λ bs. Each (BlockPlaced w.used) bs) (sym blocks) placed.blocks in
-    in_each (λ (l : Live). InMemory (length told) l.tracked.block.start l.tracked.block.size) t.live (λ l i.
+    in_each (λ (l : Live). InMemory (length machine.memory) l.tracked.block.start l.tracked.block.size) t.live (λ l i.
     let b = each_in (BlockPlaced w.used) (blocks_in (tracked_in t)) l.tracked.block each (map_in (λ (u : Tracked). u.block) (tracked_in t) l.tracked (map_in (λ (x : Live). x.tracked) t.live l i)) in
     let x = b.0 in
-    let inside = (each_in (λ (y : Allocation). (0 < y.size) × InMemory core.parts.words y.start y.size × WholeWords y.start y.size) w.used x placed.allocations b.1).1 in
+    let inside = (each_in (λ (y : Allocation). (0 < y.size) × InMemory machine.core.parts.words y.start y.size × WholeWords y.start y.size) w.used x placed.allocations b.1).1 in
     let from = inside.0 in let to = inside.1 in let low = b.3 in let high = b.4 in
     (omega (arith, from, low), omega (arith, to, high, size)))

@@ -16,10 +16,9 @@ use Rattle.km_model.specs.Output.{answer_text}
 use Rattle.km_laws.specs.Laws.{goes_on}
 use Rattle.km_laws.specs.Left.{left}
 use Rattle.km_laws.proofs.Laws.{all_is_placed, left_is_bounded, loads_lower}
-use Rattle.km_core.specs.Cores.{Seen}
 use Rattle.km_core.proofs.Cores.{one_more}
 use Rattle.km_core.proofs.Places.{bytes_most}
-use Rattle.km_machine.specs.Machines.{For}
+use Rattle.km_machine.specs.Machines.{Simulation, For}
 use Rattle.km_machine.specs.Scans.{GoesOn, Stepped, shown}
 use Rattle.km_machine.proofs.Going.{goes_event, goes_none}
 
@@ -68,15 +67,15 @@ left_few words h size follows =
     omega (arith, blocks, most, placed.room, size.1)
 
 -- so many steps have loaded
-pub record Stepping (core : Seen) (told : List ℕ) (run : Run) (most made : ℕ) : Type 0 where
+pub record Stepping (machine : Simulation) (run : Run) (most made : ℕ) : Type 0 where
   pub behind : Run
   pub makes : (n : ℕ) → made + n ≡ most → steps n behind ≡ steps most run
-  pub stands : For core told behind
+  pub stands : For machine behind
   pub goes : GoesOn run.history [] behind.history
   pub lowers : left (past_of behind.history) + made ≤ left (past_of run.history)
 
-pub stepping_none : (core : Seen) (told : List ℕ) (run : Run) (most : ℕ) → For core told run → Stepping core told run most 0
-stepping_none core told run most stands = record {
+pub stepping_none : (machine : Simulation) (run : Run) (most : ℕ) → For machine run → Stepping machine run most 0
+stepping_none machine run most stands = record {
   behind = run;
   makes = λ n e. ap (λ k. steps k run) (omega (arith, e));
   stands = stands;
@@ -85,8 +84,8 @@ stepping_none core told run most stands = record {
 }
 
 -- where all have loaded
-pub all_loaded : (core : Seen) (told : List ℕ) (run : Run) (most : ℕ) → Stepping core told run most most → Stepped core told run most Done
-all_loaded core told run most s = record {
+pub all_loaded : (machine : Simulation) (run : Run) (most : ℕ) → Stepping machine run most most → Stepped machine run most Done
+all_loaded machine run most s = record {
   behind = s.behind;
   makes = sym (s.makes 0 (omega arith));
   stands = s.stands;
@@ -99,10 +98,10 @@ step_once : (n : ℕ) (run : Run) (q : Bool) → is_loaded (told_answer run Step
     → steps (suc n) run ≡ (elim q as (λ _. Run) [ true ↦ steps n (happens run Step) | false ↦ happens run Step ])
 step_once n run q e = ap (λ q. elim q as (λ _. Run) [ true ↦ steps n (happens run Step) | false ↦ happens run Step ]) e
 
-module _ (core next : Seen) (told after : List ℕ) (run : Run) (most made : ℕ) (last : Answer)
-    (s : Stepping core told run most made) (within : made < most)
-    (happened : (b : Run) → For core told b → For next after (happens b Step))
-    (answered : (b : Run) → For core told b → last ≡ told_answer b Step) where
+module _ (machine next : Simulation) (run : Run) (most made : ℕ) (last : Answer)
+    (s : Stepping machine run most made) (within : made < most)
+    (happened : (b : Run) → For machine b → For next (happens b Step))
+    (answered : (b : Run) → For machine b → last ≡ told_answer b Step) where
   is_last : last ≡ told_answer s.behind Step
   is_last = answered s.behind s.stands
 
@@ -110,7 +109,7 @@ module _ (core next : Seen) (told after : List ℕ) (run : Run) (most made : ℕ
   step_was = is_step s.behind.words s.behind.history (told_value s.behind Step)
 
   -- a step that loads
-  pub stepping_more : is_loaded last ≡ true → Stepping next after run most (made + 1)
+  pub stepping_more : is_loaded last ≡ true → Stepping next run most (made + 1)
   stepping_more e =
       let loaded = sym (ap is_loaded is_last) ∙ e in
       let falls = (step_was.loaded loaded).1 in
@@ -123,7 +122,7 @@ module _ (core next : Seen) (told after : List ℕ) (run : Run) (most made : ℕ
       }
 
   -- one that doesn't
-  pub stepped_last : ((a v : ℕ) → last ≡ Loaded a v → ⊥) → Stepped next after run most last
+  pub stepped_last : ((a v : ℕ) → last ≡ Loaded a v → ⊥) → Stepped next run most last
   stepped_last other =
       let stopped = step_was.stopped (λ a v e. other a v (is_last ∙ e)) in
       let n : ℕ = most - suc made in
@@ -137,13 +136,13 @@ module _ (core next : Seen) (told after : List ℕ) (run : Run) (most made : ℕ
       }
 
 -- more steps than a scan has end it
-pub finished : (core next : Seen) (told after : List ℕ) (run : Run) (most : ℕ) (last : Answer) → For core told run → (s : Stepped next after run (suc most) last)
+pub finished : (machine next : Simulation) (run : Run) (most : ℕ) (last : Answer) → For machine run → (s : Stepped next run (suc most) last)
     → 33554432 ≤ suc most → Finishes run s.behind
-finished core next told after run most last f s many = (
+finished machine next run most last f s many = (
   most,
   s.makes,
   s.stopped (λ d.
-      let few = left_few core.parts.words run.history f.size f.stands.follows in
+      let few = left_few machine.core.parts.words run.history f.size f.stands.follows in
       let left = s.loaded d in
       absurd (omega (arith, few, left, many))),
 )

@@ -23,8 +23,7 @@ use Rattle.km_laws.specs.Placed.{InMemory, WholeWords}
 use Rattle.km_laws.specs.Laws.{IsPlaced}
 use Rattle.km_laws.specs.Members.{Each}
 use Rattle.km_laws.proofs.Laws.{all_is_placed}
-use Rattle.km_core.specs.Cores.{Seen}
-use Rattle.km_machine.specs.Machines.{For, Spent}
+use Rattle.km_machine.specs.Machines.{Simulation, For, Spent}
 use Rattle.km_machine.specs.Lines.{Gave, SoFar}
 use Rattle.km_machine.proofs.Lines.{happen_append}
 
@@ -64,18 +63,18 @@ unfolding answer
 area_few words asked start value h e = sized 1048576 asked start
     (unless (lowest_slot (world (past_of h)).used == 512) NoSlot (at_place (area_place words (world (past_of h)).used asked))) (is_bad_size 1048576 asked) refl e
 
-pub area_asked : (core : Seen) (told : List ℕ) (run : Run) (asked start : ℕ) → For core told run → Gave (act.VmTake asked) start run.history → asked ≤ 1048576
-area_asked core told run asked start f b = area_few core.parts.words asked start 0 b.before ((subst (λ x. Follows core.parts.words x) b.newest f.stands.follows).0)
+pub area_asked : (machine : Simulation) (run : Run) (asked start : ℕ) → For machine run → Gave (act.VmTake asked) start run.history → asked ≤ 1048576
+area_asked machine run asked start f b = area_few machine.core.parts.words asked start 0 b.before ((subst (λ x. Follows machine.core.parts.words x) b.newest f.stands.follows).0)
 
 pub record Within (words asked start : ℕ) : Type 0 where
   pub end : start + kmalloc_span asked ≤ base + 8 * words
   pub few : asked ≤ 32768
   pub memory : words ≤ 4194304
 
-pub block_in : (core : Seen) (told : List ℕ) (run : Run) (asked start : ℕ) → For core told run → Gave (act.Kmalloc asked) start run.history → Within core.parts.words asked start
-block_in core told run asked start f b = record {
-  end = block_within core.parts.words asked start b.before (subst (λ x. IsPlaced core.parts.words (world (past_of x))) b.newest (all_is_placed core.parts.words run.history f.size f.stands.follows));
-  few = asked_few core.parts.words asked start 0 b.before ((subst (λ x. Follows core.parts.words x) b.newest f.stands.follows).0);
+pub block_in : (machine : Simulation) (run : Run) (asked start : ℕ) → For machine run → Gave (act.Kmalloc asked) start run.history → Within machine.core.parts.words asked start
+block_in machine run asked start f b = record {
+  end = block_within machine.core.parts.words asked start b.before (subst (λ x. IsPlaced machine.core.parts.words (world (past_of x))) b.newest (all_is_placed machine.core.parts.words run.history f.size f.stands.follows));
+  few = asked_few machine.core.parts.words asked start 0 b.before ((subst (λ x. Follows machine.core.parts.words x) b.newest f.stands.follows).0);
   memory = f.size.1;
 }
 
@@ -90,14 +89,14 @@ one_zero run (suc n) start =
     ∙ one_zero (happens run (act.Store start 0)) n (start + 8)
 
 -- so many words of a block were cleared
-pub record Cleared (asked start n : ℕ) (core next : Seen) (memory after : List ℕ) (k' k'' : SinkState) (written result : Result (Unit {0}) Failed) : Type 0 where
-  pub spent : Spent core next memory after n 0
-  pub so_far : (word : List ℕ) (first run : Run) (k : SinkState) → Gave (act.Kmalloc asked) start run.history → SoFar word first run core memory k k' written
-      → SoFar word first (all_happen run (zeros start n)) next after k k'' result
+pub record Cleared (asked start n : ℕ) (machine next : Simulation) (k' k'' : SinkState) (written result : Result (Unit {0}) Failed) : Type 0 where
+  pub spent : Spent machine next n 0
+  pub so_far : (word : List ℕ) (first run : Run) (k : SinkState) → Gave (act.Kmalloc asked) start run.history → SoFar word first run machine k k' written
+      → SoFar word first (all_happen run (zeros start n)) next k k'' result
 
 -- one event more
-spent_on : (core next third : Seen) (memory after last : List ℕ) (n : ℕ) → Spent core next memory after n 0 → Spent next third after last 1 0 → Spent core third memory last (n + 1) 0
-spent_on core next third memory after last n s one = record {
+spent_on : (machine next third : Simulation) (n : ℕ) → Spent machine next n 0 → Spent next third 1 0 → Spent machine third (n + 1) 0
+spent_on machine next third n s one = record {
   size = one.size ∙ s.size;
   words = one.words ∙ s.words;
   events = (let a = s.events in let b = one.events in omega (arith, a, b));
@@ -108,18 +107,18 @@ spent_on core next third memory after last n s one = record {
 word_address : (words asked start n : ℕ) → Within words asked start → n < kmalloc_span asked / 8 → (start + 8 * n) % 2 ^ 64 ≡ start + 8 * n
 word_address words asked start n w low = (let a = w.end in let b = w.memory in grind (arith, a, b, low))
 
-pub one_cleared : (asked start n w : ℕ) (core next third : Seen) (memory after last : List ℕ) (k' k'' k''' : SinkState) (written between result : Result (Unit {0}) Failed)
-    → Cleared asked start n core next memory after k' k'' written between → (asked ≤ 32768 → n < kmalloc_span asked / 8) → w ≡ (start + 8 * n) % 2 ^ 64
-    → ((word : List ℕ) (first run : Run) (k : SinkState) → SoFar word first run next after k k'' between → SoFar word first (happens run (act.Store w 0)) third last k k''' result)
-    → Spent next third after last 1 0 → Cleared asked start (n + 1) core third memory last k' k''' written result
-one_cleared asked start n w core next third memory after last k' k'' k''' written between result cleared low is more spent = record {
-  spent = spent_on core next third memory after last n cleared.spent spent;
+pub one_cleared : (asked start n w : ℕ) (machine next third : Simulation) (k' k'' k''' : SinkState) (written between result : Result (Unit {0}) Failed)
+    → Cleared asked start n machine next k' k'' written between → (asked ≤ 32768 → n < kmalloc_span asked / 8) → w ≡ (start + 8 * n) % 2 ^ 64
+    → ((word : List ℕ) (first run : Run) (k : SinkState) → SoFar word first run next k k'' between → SoFar word first (happens run (act.Store w 0)) third k k''' result)
+    → Spent next third 1 0 → Cleared asked start (n + 1) machine third k' k''' written result
+one_cleared asked start n w machine next third k' k'' k''' written between result cleared low is more spent = record {
+  spent = spent_on machine next third n cleared.spent spent;
   so_far = λ word first run k block s.
-      let within = block_in core memory run asked start s.stands block in
-      let address = is ∙ word_address core.parts.words asked start n within (low within.few) in
+      let within = block_in machine run asked start s.stands block in
+      let address = is ∙ word_address machine.core.parts.words asked start n within (low within.few) in
       let next_is : happens (all_happen run (zeros start n)) (act.Store w 0) ≡ all_happen run (zeros start (n + 1)) =
       ap (λ a. happens (all_happen run (zeros start n)) (act.Store a 0)) address ∙ one_zero run n start ∙ (let e : suc n ≡ n + 1 = omega arith in ap (λ m. all_happen run (zeros start m)) e) in
-      subst (λ x. SoFar word first x third last k k''' result) next_is (more word first (all_happen run (zeros start n)) k (cleared.so_far word first run k block s));
+      subst (λ x. SoFar word first x third k k''' result) next_is (more word first (all_happen run (zeros start n)) k (cleared.so_far word first run k block s));
 }
 
 -- the head of a live area lies in the memory
@@ -135,17 +134,17 @@ head_holds : (P : ℕ → Type 0) (used : List Allocation) (s head : ℕ) → Ea
 head_holds P [] s head each e = absurd (let z : ⊥ = cc in z)
 head_holds P (x ∷ used) s head each e = head_step P x.«use» s x.start head (head_with used s) each.0 (head_holds P used s head each.1) e
 
-pub head_low : (core : Seen) (memory : List ℕ) (run : Run) (s head : ℕ) → For core memory run → head_with (world (past_of run.history)).used s ≡ Some head → head + 64 ≤ 2 ^ 64
-head_low core memory run s head f e =
+pub head_low : (machine : Simulation) (run : Run) (s head : ℕ) → For machine run → head_with (world (past_of run.history)).used s ≡ Some head → head + 64 ≤ 2 ^ 64
+head_low machine run s head f e =
     head_holds (λ a. a + 64 ≤ 2 ^ 64) (world (past_of run.history)).used s head
-    (each_weaker (λ (x : Allocation). (0 < x.size) × InMemory core.parts.words x.start x.size × WholeWords x.start x.size) (λ (x : Allocation). x.start + 64 ≤ 2 ^ 64)
-    (λ x p. let a = p.1.1 in let b = f.size.1 in omega (arith, a, b)) (world (past_of run.history)).used (all_is_placed core.parts.words run.history f.size f.stands.follows).allocations) e
+    (each_weaker (λ (x : Allocation). (0 < x.size) × InMemory machine.core.parts.words x.start x.size × WholeWords x.start x.size) (λ (x : Allocation). x.start + 64 ≤ 2 ^ 64)
+    (λ x p. let a = p.1.1 in let b = f.size.1 in omega (arith, a, b)) (world (past_of run.history)).used (all_is_placed machine.core.parts.words run.history f.size f.stands.follows).allocations) e
 
 -- so many values were stored
-pub record Filled (start : ℕ) (values : List ℕ) (n : ℕ) (core next : Seen) (memory after : List ℕ) (k' k'' : SinkState) (written result : Result (Unit {0}) Failed) : Type 0 where
-  pub spent : Spent core next memory after n 0
-  pub so_far : (word : List ℕ) (first run : Run) (k : SinkState) → start + 64 ≤ 2 ^ 64 → SoFar word first run core memory k k' written
-      → SoFar word first (all_happen run (stores_from start (take n values))) next after k k'' result
+pub record Filled (start : ℕ) (values : List ℕ) (n : ℕ) (machine next : Simulation) (k' k'' : SinkState) (written result : Result (Unit {0}) Failed) : Type 0 where
+  pub spent : Spent machine next n 0
+  pub so_far : (word : List ℕ) (first run : Run) (k : SinkState) → start + 64 ≤ 2 ^ 64 → SoFar word first run machine k k' written
+      → SoFar word first (all_happen run (stores_from start (take n values))) next k k'' result
 
 one_store : (run : Run) (n start : ℕ) (values : List ℕ) → n < length values
     → happens (all_happen run (stores_from start (take n values))) (act.Store (start + 8 * n) (get_or values n 0)) ≡ all_happen run (stores_from start (take (suc n) values))
@@ -155,19 +154,19 @@ one_store run (suc n) start (v ∷ vs) low =
     (let e : start + 8 * suc n ≡ (start + 8) + 8 * n = omega arith in ap (λ a. happens (all_happen run (stores_from start (take (suc n) (v ∷ vs)))) (act.Store a (get_or vs n 0))) e)
     ∙ one_store (happens run (act.Store start v)) n (start + 8) vs (omega (arith, low))
 
-pub one_filled : (start : ℕ) (values : List ℕ) (n w : ℕ) (core next third : Seen) (memory after last : List ℕ) (k' k'' k''' : SinkState) (written between result : Result (Unit {0}) Failed)
-    → length values ≤ 8 → n < length values → Filled start values n core next memory after k' k'' written between → w ≡ (start + 8 * n) % 2 ^ 64
-    → ((word : List ℕ) (first run : Run) (k : SinkState) → SoFar word first run next after k k'' between → SoFar word first (happens run (act.Store w (get_or values n 0))) third last k k''' result)
-    → Spent next third after last 1 0 → Filled start values (n + 1) core third memory last k' k''' written result
-one_filled start values n w core next third memory after last k' k'' k''' written between result few low filled is more spent = record {
-  spent = spent_on core next third memory after last n filled.spent spent;
+pub one_filled : (start : ℕ) (values : List ℕ) (n w : ℕ) (machine next third : Simulation) (k' k'' k''' : SinkState) (written between result : Result (Unit {0}) Failed)
+    → length values ≤ 8 → n < length values → Filled start values n machine next k' k'' written between → w ≡ (start + 8 * n) % 2 ^ 64
+    → ((word : List ℕ) (first run : Run) (k : SinkState) → SoFar word first run next k k'' between → SoFar word first (happens run (act.Store w (get_or values n 0))) third k k''' result)
+    → Spent next third 1 0 → Filled start values (n + 1) machine third k' k''' written result
+one_filled start values n w machine next third k' k'' k''' written between result few low filled is more spent = record {
+  spent = spent_on machine next third n filled.spent spent;
   so_far = λ word first run k end s.
       let small : start + 8 * n < 2 ^ 64 = omega (arith, few, low, end) in
       let address : w ≡ start + 8 * n = is ∙ mod-eq_of_lt small in
       let next_is : happens (all_happen run (stores_from start (take n values))) (act.Store w (get_or values n 0)) ≡ all_happen run (stores_from start (take (n + 1) values)) =
       ap (λ a. happens (all_happen run (stores_from start (take n values))) (act.Store a (get_or values n 0))) address ∙ one_store run n start values low
       ∙ (let e : suc n ≡ n + 1 = omega arith in ap (λ m. all_happen run (stores_from start (take m values))) e) in
-      subst (λ x. SoFar word first x third last k k''' result) next_is (more word first (all_happen run (stores_from start (take n values))) k (filled.so_far word first run k end s));
+      subst (λ x. SoFar word first x third k k''' result) next_is (more word first (all_happen run (stores_from start (take n values))) k (filled.so_far word first run k end s));
 }
 
 -- a new area's head and slot

@@ -7,23 +7,22 @@ use Rattle.km_edge.specs.Streams.{SinkState, WritesAll}
 use Rattle.km_edge.proofs.Writing.{wrote_none}
 use Rattle.km_model.specs.Follows.{Run, Follows, happens}
 use Rattle.km_model.specs.Expansion.{due_by, run_at, world_after}
-use Rattle.km_core.specs.Cores.{Seen}
 use Rattle.km_core.specs.declared.settings.Settings.{Settings}
-use Rattle.km_machine.specs.Machines.{For}
+use Rattle.km_machine.specs.Machines.{Simulation, For}
 use Rattle.km_machine.specs.Scans.{GoesOn, ReachesOver, Scanned, ScansUntil, shown}
 use Rattle.km_machine.proofs.Going.{goes_more, goes_none}
 use Rattle.km_laws.proofs.Since.{follows_answered}
 use Rattle.km_machine.proofs.Timely.{scan_paced}
 
 -- the moment of a core
-pub now_is : (core : Seen) (told : List ℕ) (run : Run) → For core told run → (world_after run.history).now ≡ core.parts.settings.now
-now_is core told run stands = sym stands.stands.history.moment ∙ ap (λ (q : Settings). q.now) stands.stands.parts.hosts.settings
+pub now_is : (machine : Simulation) (run : Run) → For machine run → (world_after run.history).now ≡ machine.core.parts.settings.now
+now_is machine run stands = sym stands.stands.history.moment ∙ ap (λ (q : Settings). q.now) stands.stands.parts.hosts.settings
 
 -- so many automatic scans were made, each but the first a second behind the last at least
-pub record Pacing (core : Seen) (told : List ℕ) (target : ℕ) (run : Run) (made : ℕ) (k k' : SinkState) (written : Result (Unit {0}) Failed) : Type 0 where
+pub record Pacing (machine : Simulation) (target : ℕ) (run : Run) (made : ℕ) (k k' : SinkState) (written : Result (Unit {0}) Failed) : Type 0 where
   pub behind : Run
   pub over : (run' : Run) → ReachesOver target behind run' → ReachesOver target run run'
-  pub stands : For core told behind
+  pub stands : For machine behind
   pub text : List ℕ
   pub goes : GoesOn run.history text behind.history
   pub wrote : WritesAll k k' text written
@@ -31,8 +30,8 @@ pub record Pacing (core : Seen) (told : List ℕ) (target : ℕ) (run : Run) (ma
   pub paced : (world_after run.history).now + 1000 * made ≤ (world_after behind.history).now + 1000
   pub next : 0 < made → (m : ℕ) → (world_after behind.history).due ≡ Some m → (world_after behind.history).now + 1000 ≤ m
 
-pub pacing_none : (core : Seen) (told : List ℕ) (target : ℕ) (run : Run) (k : SinkState) → For core told run → Pacing core told target run 0 k k (Ok tt)
-pacing_none core told target run k stands = record {
+pub pacing_none : (machine : Simulation) (target : ℕ) (run : Run) (k : SinkState) → For machine run → Pacing machine target run 0 k k (Ok tt)
+pacing_none machine target run k stands = record {
   behind = run;
   over = λ run' r. r;
   stands = stands;
@@ -58,13 +57,13 @@ a_second_on zero start now later due is since paced far = omega (arith, is, sinc
 a_second_on (suc n) start now later due is since paced far = let second = far (omega arith) in omega (arith, is, paced, second)
 
 -- one more
-pub pacing_more : (core next : Seen) (told after : List ℕ) (target : ℕ) (run : Run) (made : ℕ) (k k' k'' : SinkState) (written written' : Result (Unit {0}) Failed) (due : ℕ) (last : Answer)
-    → (s : Pacing core told target run made k k' written)
+pub pacing_more : (machine next : Simulation) (target : ℕ) (run : Run) (made : ℕ) (k k' k'' : SinkState) (written written' : Result (Unit {0}) Failed) (due : ℕ) (last : Answer)
+    → (s : Pacing machine target run made k k' written)
     → due_by target (world_after s.behind.history) ≡ Some due
-    → ((b : Run) → For core told b → Scanned next after b.history (happens (run_at b due) AutoBegin) last)
+    → ((b : Run) → For machine b → Scanned next b.history (happens (run_at b due) AutoBegin) last)
     → ((text : List ℕ) → WritesAll k k' text written → WritesAll k k'' (text ++ shown last) written')
-    → Pacing next after target run (made + 1) k k'' written'
-pacing_more core next told after target run made k k' k'' written written' due last s is_due scanned writes =
+    → Pacing next target run (made + 1) k k'' written'
+pacing_more machine next target run made k k' k'' written written' due last s is_due scanned writes =
     let scan = scanned s.behind s.stands in
     let due_then = due_is target (world_after s.behind.history).due due is_due in
     let follows = subst (λ w. Follows w s.behind.history) (sym s.stands.words) s.stands.stands.follows in
@@ -83,16 +82,16 @@ pacing_more core next told after target run made k k' k'' written written' due l
     }
 
 -- an hour has no more
-pub paced_out : (core : Seen) (told : List ℕ) (target : ℕ) (run : Run) (made start : ℕ) (k k' : SinkState) (written : Result (Unit {0}) Failed)
-    → Pacing core told target run made k k' written → 3602 ≤ made → (world_after run.history).now ≡ start → target ≤ start + 3600000 → core.parts.settings.now ≤ target
-    → ScansUntil core told target run k k' written
-paced_out core told target run made start k k' written s many begin hour ahead =
-    let now = now_is core told s.behind s.stands in let paced = s.paced in absurd (omega (arith, now, paced, many, begin, hour, ahead))
+pub paced_out : (machine : Simulation) (target : ℕ) (run : Run) (made start : ℕ) (k k' : SinkState) (written : Result (Unit {0}) Failed)
+    → Pacing machine target run made k k' written → 3602 ≤ made → (world_after run.history).now ≡ start → target ≤ start + 3600000 → machine.core.parts.settings.now ≤ target
+    → ScansUntil machine target run k k' written
+paced_out machine target run made start k k' written s many begin hour ahead =
+    let now = now_is machine s.behind s.stands in let paced = s.paced in absurd (omega (arith, now, paced, many, begin, hour, ahead))
 
 -- none is due any more
-pub paced_until : (core : Seen) (told : List ℕ) (target : ℕ) (run : Run) (made : ℕ) (k k' : SinkState) (written : Result (Unit {0}) Failed)
-    → (s : Pacing core told target run made k k' written) → due_by target (world_after s.behind.history) ≡ None → ScansUntil core told target run k k' written
-paced_until core told target run made k k' written s none = record {
+pub paced_until : (machine : Simulation) (target : ℕ) (run : Run) (made : ℕ) (k k' : SinkState) (written : Result (Unit {0}) Failed)
+    → (s : Pacing machine target run made k k' written) → due_by target (world_after s.behind.history) ≡ None → ScansUntil machine target run k k' written
+paced_until machine target run made k k' written s none = record {
   behind = s.behind;
   over = s.over;
   none_due = ap is_none none;

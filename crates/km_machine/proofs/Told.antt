@@ -18,7 +18,7 @@ use Rattle.km_state.specs.State.{State}
 use Rattle.km_words.specs.Told.{Told, of_memory}
 use Rattle.km_core.specs.Cores.{Seen, Stands}
 use Rattle.km_core.specs.Parts.{Touches}
-use Rattle.km_machine.specs.Machines.{For}
+use Rattle.km_machine.specs.Machines.{Simulation, For}
 
 load_value : (c d : Bool) (a v w : ℕ) → (unless c NoTask (unless d BadAddress (Loaded a v)) ≡ Loaded a v → v ≡ w)
     → unless c NoTask (unless d BadAddress (Loaded a v)) ≡ unless c NoTask (unless d BadAddress (Loaded a w))
@@ -70,28 +70,28 @@ memory_told act (Loaded b w) t u e = ap words_of e.after
 memory_told act given t u e = ap words_of e
 
 -- an answer of the core, over told words
-pub core_told : (core : Seen) (told after : List ℕ) (run : Run) (act : Act) (given : Answer) → For core told run
-    → given ≡ answer core.parts.words (past_of run.history) act (value_of given) → Touches act given (of_memory told) (of_memory after) → given ≡ told_answer run act
-core_told core told after run act given r answered touches =
-    answer_told run act given told after r.memory (subst (λ n. given ≡ answer n (past_of run.history) act (value_of given)) (sym r.words) answered) touches
+pub core_told : (machine : Simulation) (after : List ℕ) (run : Run) (act : Act) (given : Answer) → For machine run
+    → given ≡ answer machine.core.parts.words (past_of run.history) act (value_of given) → Touches act given (of_memory machine.memory) (of_memory after) → given ≡ told_answer run act
+core_told machine after run act given r answered touches =
+    answer_told run act given machine.memory after r.memory (subst (λ n. given ≡ answer n (past_of run.history) act (value_of given)) (sym r.words) answered) touches
 
 -- one act, over told words
-pub act_happens : (core next : Seen) (told after : List ℕ) (run : Run) (act : Act) (given : Answer) (s : State) → For core told run
-    → given ≡ answer core.parts.words (past_of run.history) act (value_of given) → Stands next (record { act = act; answer = given } ∷ run.history) s
-    → Touches act given (of_memory told) (of_memory after) → next.parts.words ≡ core.parts.words → For next after (happens run act)
-act_happens core next told after run act given s r answered stands touches words =
-    let stored = memory_told act given told after touches in
-    subst (λ x. For next after (record run { history = record { act = act; answer = x } ∷ run.history; memory = memory_after_act run.memory act x }))
-    (core_told core told after run act given r answered touches) (record {
+pub act_happens : (machine next : Simulation) (run : Run) (act : Act) (given : Answer) (s : State) → For machine run
+    → given ≡ answer machine.core.parts.words (past_of run.history) act (value_of given) → Stands next.core (record { act = act; answer = given } ∷ run.history) s
+    → Touches act given (of_memory machine.memory) (of_memory next.memory) → next.core.parts.words ≡ machine.core.parts.words → For next (happens run act)
+act_happens machine next run act given s r answered stands touches words =
+    let stored = memory_told act given machine.memory next.memory touches in
+    subst (λ x. For next (record run { history = record { act = act; answer = x } ∷ run.history; memory = memory_after_act run.memory act x }))
+    (core_told machine next.memory run act given r answered touches) (record {
       size = subst IsMemorySize (sym words) r.size;
       words = r.words ∙ sym words;
-      whole = ap length stored ∙ length-memory_after_act told act given ∙ r.whole ∙ sym words;
+      whole = ap length stored ∙ length-memory_after_act machine.memory act given ∙ r.whole ∙ sym words;
       state = s;
       stands = stands;
       memory = stored ∙ ap (λ m. memory_after_act m act given) r.memory;
     })
 
 -- whatever a history stored, a core that stands for it stands with any words, as many as it has, for a run
-pub any_words : (core : Seen) (told : List ℕ) (h : History) (s : State) → Stands core h s → IsMemorySize core.parts.words → length told ≡ core.parts.words
-    → For core told (record { words = core.parts.words; history = h; memory = told })
-any_words core told h s stands size whole = record { size = size; words = refl; whole = whole; state = s; stands = stands; memory = refl }
+pub any_words : (machine : Simulation) (h : History) (s : State) → Stands machine.core h s → IsMemorySize machine.core.parts.words → length machine.memory ≡ machine.core.parts.words
+    → For machine (record { words = machine.core.parts.words; history = h; memory = machine.memory })
+any_words machine h s stands size whole = record { size = size; words = refl; whole = whole; state = s; stands = stands; memory = refl }

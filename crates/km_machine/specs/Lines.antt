@@ -13,12 +13,11 @@ use Rattle.km_model.specs.History.{History}
 use Rattle.km_model.specs.Follows.{Run}
 use Rattle.km_model.specs.Expansion.{Acts, first_acts, world_after}
 use Rattle.km_model.specs.Output.{events_text}
-use Rattle.km_core.specs.Cores.{Seen}
-use Rattle.km_machine.specs.Machines.{For}
+use Rattle.km_machine.specs.Machines.{Simulation, For}
 
 -- a line that began at one run has led to another, and has written the text of its events, or written it up to a fault
-pub record SoFar (word : List ℕ) (first run : Run) (core : Seen) (told : List ℕ) (k k' : SinkState) (written : Result (Unit {0}) Failed) : Type 0 where
-  pub stands : For core told run
+pub record SoFar (word : List ℕ) (first run : Run) (machine : Simulation) (k k' : SinkState) (written : Result (Unit {0}) Failed) : Type 0 where
+  pub stands : For machine run
   pub count : ℕ
   pub grown : length run.history ≡ count + length first.history
   pub wrote : WritesAll k k' (events_text first.memory word count run.history) written

@@ -10,8 +10,7 @@ use Rattle.km_model.specs.Expansion.{world_after, is_idle, steps, due_by, ScansI
 use Rattle.km_model.specs.Output.{events_text}
 use Rattle.km_model.specs.Text.{dump_text, new_text, refusal_text, stopped_text}
 use Rattle.km_laws.specs.Left.{left}
-use Rattle.km_core.specs.Cores.{Seen}
-use Rattle.km_machine.specs.Machines.{For}
+use Rattle.km_machine.specs.Machines.{Simulation, For}
 
 -- what an answer prints that is neither an address nor one to a read
 abbrev pub shown : Answer → List ℕ
@@ -31,19 +30,19 @@ pub record GoesOn (h : History) (text : List ℕ) (h' : History) : Type 0 where
   pub prints : (memory : List ℕ) → events_text memory [] (length news) h' ≡ text
 
 -- at most so many scanner steps were made, the last alone prints, and was answered `Done` where each step loaded
-pub record Stepped (core : Seen) (told : List ℕ) (run : Run) (most : ℕ) (last : Answer) : Type 0 where
+pub record Stepped (machine : Simulation) (run : Run) (most : ℕ) (last : Answer) : Type 0 where
   pub behind : Run
   pub makes : steps most run ≡ behind
-  pub stands : For core told behind
+  pub stands : For machine behind
   pub goes : GoesOn run.history (shown last) behind.history
   pub loaded : last ≡ Done → left (past_of behind.history) + most ≤ left (past_of run.history)
   pub stopped : (last ≡ Done → ⊥) → IsTrue (is_idle behind.history)
 
 -- a whole scan was made if an event began one, and the last answer alone prints
-pub record Scanned (core : Seen) (told : List ℕ) (first : History) (run : Run) (last : Answer) : Type 0 where
+pub record Scanned (machine : Simulation) (first : History) (run : Run) (last : Answer) : Type 0 where
   pub behind : Run
   pub makes : ScansIfBegun run behind
-  pub stands : For core told behind
+  pub stands : For machine behind
   pub goes : GoesOn first (shown last) behind.history
 
 -- over some automatic scans to a moment
@@ -51,11 +50,11 @@ abbrev pub ReachesOver : ℕ → Run → Run → Type 0
 ReachesOver target run run' = (scans : ℕ) × TicksOver target scans run run'
 
 -- the automatic scans that are due by a moment were made, and their text written, or written up to a fault
-pub record ScansUntil (core : Seen) (told : List ℕ) (target : ℕ) (run : Run) (k k' : SinkState) (result : Result (Unit {0}) Failed) : Type 0 where
+pub record ScansUntil (machine : Simulation) (target : ℕ) (run : Run) (k k' : SinkState) (result : Result (Unit {0}) Failed) : Type 0 where
   pub behind : Run
   pub over : (run' : Run) → ReachesOver target behind run' → ReachesOver target run run'
   pub none_due : IsTrue (is_none (due_by target (world_after behind.history)))
-  pub stands : For core told behind
+  pub stands : For machine behind
   pub text : List ℕ
   pub goes : GoesOn run.history text behind.history
   pub wrote : WritesAll k k' text result

@@ -24,10 +24,10 @@ pub fn made<K: Sink>(
     written: Result<(), Failed>,
     sink: &mut K,
 ) -> Result<(), Failed>
-    requires room { HasRoom machine.old.core machine.old.words 1 0 }
+    requires room { HasRoom machine.old 1 0 }
     requires simple { is_simple act ≡ true }
-    ensures so_far { (word : List ℕ) (first run : Run) (k : SinkState) → SoFar word first run machine.old.core machine.old.words k (K.state sink.old) written → SoFar word first (happens run act) machine.new.core machine.new.words k (K.state sink.new) result }
-    ensures spent { Spent machine.old.core machine.new.core machine.old.words machine.new.words 1 0 }
+    ensures so_far { (word : List ℕ) (first run : Run) (k : SinkState) → SoFar word first run machine.old k (K.state sink.old) written → SoFar word first (happens run act) machine.new k (K.state sink.new) result }
+    ensures spent { Spent machine.old machine.new 1 0 }
 {
     let answer = machine.event(act);
     match written {
@@ -51,10 +51,10 @@ fn set<K: Sink>(
     written: Result<(), Failed>,
     sink: &mut K,
 ) -> Result<(), Failed>
-    requires { HasRoom machine.old.core machine.old.words 1 0 }
-    ensures so_far { (word : List ℕ) (first run : Run) (k : SinkState) → SoFar word first run machine.old.core machine.old.words k (K.state sink.old) written
-        → SoFar word first (all_happen run (set_register reg start)) machine.new.core machine.new.words k (K.state sink.new) result }
-    ensures spent { Spent machine.old.core machine.new.core machine.old.words machine.new.words 1 0 }
+    requires { HasRoom machine.old 1 0 }
+    ensures so_far { (word : List ℕ) (first run : Run) (k : SinkState) → SoFar word first run machine.old k (K.state sink.old) written
+        → SoFar word first (all_happen run (set_register reg start)) machine.new k (K.state sink.new) result }
+    ensures spent { Spent machine.old machine.new 1 0 }
 {
     match reg {
         Some(reg) => {
@@ -77,10 +77,10 @@ fn clear<K: Sink>(
     written: Result<(), Failed>,
     sink: &mut K,
 ) -> Result<(), Failed>
-    requires { HasRoom machine.old.core machine.old.words 4096 0 }
-    ensures so_far { (word : List ℕ) (first run : Run) (k : SinkState) → Gave (Kmalloc size) start run.history → SoFar word first run machine.old.core machine.old.words k (K.state sink.old) written
-        → SoFar word first (all_happen run (map (λ b. Store b 0) (words_from (kmalloc_span size / 8) start))) machine.new.core machine.new.words k (K.state sink.new) result }
-    ensures spent { Spent machine.old.core machine.new.core machine.old.words machine.new.words 4096 0 }
+    requires { HasRoom machine.old 4096 0 }
+    ensures so_far { (word : List ℕ) (first run : Run) (k : SinkState) → Gave (Kmalloc size) start run.history → SoFar word first run machine.old k (K.state sink.old) written
+        → SoFar word first (all_happen run (map (λ b. Store b 0) (words_from (kmalloc_span size / 8) start))) machine.new k (K.state sink.new) result }
+    ensures spent { Spent machine.old machine.new 4096 0 }
 {
     let mut written = written;
     for i in 0..words_for(size) {
@@ -113,10 +113,10 @@ fn fill<K: Sink>(
     sink: &mut K,
 ) -> Result<(), Failed>
     requires few { length values.now ≤ 8 }
-    requires room { HasRoom machine.old.core machine.old.words 8 0 }
-    ensures so_far { (word : List ℕ) (first run : Run) (k : SinkState) → start + 64 ≤ 2 ^ 64 → SoFar word first run machine.old.core machine.old.words k (K.state sink.old) written
-        → SoFar word first (all_happen run (stores_from start values.now)) machine.new.core machine.new.words k (K.state sink.new) result }
-    ensures spent { Spent machine.old.core machine.new.core machine.old.words machine.new.words 8 0 }
+    requires room { HasRoom machine.old 8 0 }
+    ensures so_far { (word : List ℕ) (first run : Run) (k : SinkState) → start + 64 ≤ 2 ^ 64 → SoFar word first run machine.old k (K.state sink.old) written
+        → SoFar word first (all_happen run (stores_from start values.now)) machine.new k (K.state sink.new) result }
+    ensures spent { Spent machine.old machine.new 8 0 }
 {
     let mut written = written;
     for i in 0..values.len() {
@@ -137,12 +137,12 @@ fn write_head<K: Sink>(
     written: Result<(), Failed>,
     sink: &mut K,
 ) -> Result<(), Failed>
-    requires { HasRoom machine.old.core machine.old.words 9 0 }
-    ensures so_far { (word : List ℕ) (first run : Run) (k : SinkState) → Gave (VmTake size) start run.history → SoFar word first run machine.old.core machine.old.words k (K.state sink.old) written
-        → SoFar word first (all_happen run (head_stores (world_after run.history) size start)) machine.new.core machine.new.words k (K.state sink.new) result }
-    ensures spent { Spent machine.old.core machine.new.core machine.old.words machine.new.words 9 0 }
+    requires { HasRoom machine.old 9 0 }
+    ensures so_far { (word : List ℕ) (first run : Run) (k : SinkState) → Gave (VmTake size) start run.history → SoFar word first run machine.old k (K.state sink.old) written
+        → SoFar word first (all_happen run (head_stores (world_after run.history) size start)) machine.new k (K.state sink.new) result }
+    ensures spent { Spent machine.old machine.new 9 0 }
 {
-    match machine.core.vm_area(Addr(start)) {
+    match machine.core().vm_area(Addr(start)) {
         Some(area) => {
             let head = area.head.start.0;
             let values = [0, start, area_bytes(size), 0, 0, 0, 0, 0];
@@ -166,10 +166,10 @@ pub fn acts<K: Sink>(
     sink: &mut K,
 ) -> Result<(), Failed>
     requires allocation { is_allocation command.now ≡ true }
-    requires room { HasRoom machine.old.core machine.old.words (2 ^ 13) 0 }
-    ensures so_far { (word : List ℕ) (first run : Run) (k : SinkState) → IsGiven command.now start run.history → SoFar word first run machine.old.core machine.old.words k (K.state sink.old) written
-        → SoFar word first (all_happen run (acts_behind (world_after run.history) command.now start)) machine.new.core machine.new.words k (K.state sink.new) result }
-    ensures spent { Spent machine.old.core machine.new.core machine.old.words machine.new.words (2 ^ 13) 0 }
+    requires room { HasRoom machine.old (2 ^ 13) 0 }
+    ensures so_far { (word : List ℕ) (first run : Run) (k : SinkState) → IsGiven command.now start run.history → SoFar word first run machine.old k (K.state sink.old) written
+        → SoFar word first (all_happen run (acts_behind (world_after run.history) command.now start)) machine.new k (K.state sink.new) result }
+    ensures spent { Spent machine.old machine.new (2 ^ 13) 0 }
 {
     match *command {
         Command::Kmalloc { reg, .. } => set(machine, reg, start, written, sink),

@@ -30,7 +30,7 @@ fn refuse<K: Sink>(refusal: Refusal, sink: &mut K) -> Result<(), Failed>
 
 /// Refuses a register of a task that isn't live. It can be set where it can be read.
 fn live(machine: &Machine, reg: RegName) -> Result<(), Refusal>
-    ensures { (run : Run) → For machine.now.core machine.now.words run → result ≡ then_do (task_or_refusal (world_after run.history) reg.task) (λ _. Ok tt) }
+    ensures { (run : Run) → For machine.now run → result ≡ then_do (task_or_refusal (world_after run.history) reg.task) (λ _. Ok tt) }
 {
     let base = Base::Reg {
         task: reg.task,
@@ -42,7 +42,7 @@ fn live(machine: &Machine, reg: RegName) -> Result<(), Refusal>
 
 /// The event that sets a register.
 fn set(machine: &Machine, reg: RegName, value: &Operand) -> Result<Act, Refusal>
-    ensures acts { (run : Run) → For machine.now.core machine.now.words run → acts_of result ≡ first_acts (world_after run.history) (command.Set reg value.now) }
+    ensures acts { (run : Run) → For machine.now run → acts_of result ≡ first_acts (world_after run.history) (command.Set reg value.now) }
     ensures simple { IfOk result (λ act. is_simple act ≡ true) }
 {
     live(machine, reg)?;
@@ -55,7 +55,7 @@ fn set(machine: &Machine, reg: RegName, value: &Operand) -> Result<Act, Refusal>
 
 /// The event that loads a word into a register.
 fn load(machine: &Machine, reg: RegName, addr: &Operand) -> Result<Act, Refusal>
-    ensures acts { (run : Run) → For machine.now.core machine.now.words run → acts_of result ≡ first_acts (world_after run.history) (command.Load reg addr.now) }
+    ensures acts { (run : Run) → For machine.now run → acts_of result ≡ first_acts (world_after run.history) (command.Load reg addr.now) }
     ensures simple { IfOk result (λ act. is_simple act ≡ true) }
 {
     live(machine, reg)?;
@@ -68,7 +68,7 @@ fn load(machine: &Machine, reg: RegName, addr: &Operand) -> Result<Act, Refusal>
 
 /// The event that stores a word.
 fn store(machine: &Machine, addr: &Operand, value: &Operand) -> Result<Act, Refusal>
-    ensures acts { (run : Run) → For machine.now.core machine.now.words run → acts_of result ≡ first_acts (world_after run.history) (command.Store addr.now value.now) }
+    ensures acts { (run : Run) → For machine.now run → acts_of result ≡ first_acts (world_after run.history) (command.Store addr.now value.now) }
     ensures simple { IfOk result (λ act. is_simple act ≡ true) }
 {
     Ok(Act::Store {
@@ -80,7 +80,7 @@ fn store(machine: &Machine, addr: &Operand, value: &Operand) -> Result<Act, Refu
 /// The event of a line that makes one, or the refusal of what is missing.
 fn alone(machine: &Machine, command: &Command) -> Result<Act, Refusal>
     requires { is_alone command.now ≡ true }
-    ensures acts { (run : Run) → For machine.now.core machine.now.words run → acts_of result ≡ first_acts (world_after run.history) command.now }
+    ensures acts { (run : Run) → For machine.now run → acts_of result ≡ first_acts (world_after run.history) command.now }
     ensures simple { IfOk result (λ act. is_simple act ≡ true) }
 {
     match *command {
@@ -118,9 +118,9 @@ fn alone(machine: &Machine, command: &Command) -> Result<Act, Refusal>
 /// Runs a line that makes one simple event, if no operand is missing.
 fn run_alone<K: Sink>(machine: &mut Machine, command: &Command, sink: &mut K) -> Result<(), Failed>
     requires alone { is_alone command.now ≡ true }
-    requires room { HasRoom machine.old.core machine.old.words 1 0 }
-    ensures runs { (run : Run) → For machine.old.core machine.old.words run → RunsLine machine.new.core machine.new.words run command.now (K.state sink.old) (K.state sink.new) result }
-    ensures spent { Spent machine.old.core machine.new.core machine.old.words machine.new.words 1 0 }
+    requires room { HasRoom machine.old 1 0 }
+    ensures runs { (run : Run) → For machine.old run → RunsLine machine.new run command.now (K.state sink.old) (K.state sink.new) result }
+    ensures spent { Spent machine.old machine.new 1 0 }
 {
     match alone(machine, command) {
         Ok(act) => made(machine, act, Ok(()), sink),
@@ -130,7 +130,7 @@ fn run_alone<K: Sink>(machine: &mut Machine, command: &Command, sink: &mut K) ->
 
 /// An act, unless it is for a register of a task that isn't live.
 fn for_register(machine: &Machine, reg: Option<RegName>, act: Act) -> Result<Act, Refusal>
-    ensures acts { (run : Run) → For machine.now.core machine.now.words run → acts_of result ≡ for_register_of (world_after run.history) reg act }
+    ensures acts { (run : Run) → For machine.now run → acts_of result ≡ for_register_of (world_after run.history) reg act }
     ensures same { IfOk result (λ a. a ≡ act) }
 {
     match reg {
@@ -145,7 +145,7 @@ fn for_register(machine: &Machine, reg: Option<RegName>, act: Act) -> Result<Act
 /// The request of a line for an allocation, or the refusal of its register.
 fn request(machine: &Machine, command: &Command) -> Result<Act, Refusal>
     requires { is_allocation command.now ≡ true }
-    ensures acts { (run : Run) → For machine.now.core machine.now.words run → acts_of result ≡ first_acts (world_after run.history) command.now }
+    ensures acts { (run : Run) → For machine.now run → acts_of result ≡ first_acts (world_after run.history) command.now }
     ensures request { IfOk result (λ act. is_request act ≡ true) }
 {
     match *command {
@@ -184,9 +184,9 @@ fn requested<K: Sink>(
 ) -> Result<(), Failed>
     requires allocation { is_allocation command.now ≡ true }
     requires request { is_request act ≡ true }
-    requires room { HasRoom machine.old.core machine.old.words (2 ^ 14) 0 }
-    ensures runs { (run : Run) → For machine.old.core machine.old.words run → Ok (act ∷ []) ≡ first_acts (world_after run.history) command.now → RunsLine machine.new.core machine.new.words run command.now (K.state sink.old) (K.state sink.new) result }
-    ensures spent { Spent machine.old.core machine.new.core machine.old.words machine.new.words (2 ^ 14) 0 }
+    requires room { HasRoom machine.old (2 ^ 14) 0 }
+    ensures runs { (run : Run) → For machine.old run → Ok (act ∷ []) ≡ first_acts (world_after run.history) command.now → RunsLine machine.new run command.now (K.state sink.old) (K.state sink.new) result }
+    ensures spent { Spent machine.old machine.new (2 ^ 14) 0 }
 {
     let answer = machine.event(act);
     match answer {
@@ -201,9 +201,9 @@ fn requested<K: Sink>(
 /// Runs a line for an allocation.
 fn allocate<K: Sink>(machine: &mut Machine, command: &Command, sink: &mut K) -> Result<(), Failed>
     requires allocation { is_allocation command.now ≡ true }
-    requires room { HasRoom machine.old.core machine.old.words (2 ^ 14) 0 }
-    ensures runs { (run : Run) → For machine.old.core machine.old.words run → RunsLine machine.new.core machine.new.words run command.now (K.state sink.old) (K.state sink.new) result }
-    ensures spent { Spent machine.old.core machine.new.core machine.old.words machine.new.words (2 ^ 14) 0 }
+    requires room { HasRoom machine.old (2 ^ 14) 0 }
+    ensures runs { (run : Run) → For machine.old run → RunsLine machine.new run command.now (K.state sink.old) (K.state sink.new) result }
+    ensures spent { Spent machine.old machine.new (2 ^ 14) 0 }
 {
     match request(machine, command) {
         Ok(act) => requested(machine, command, act, sink),
@@ -213,7 +213,7 @@ fn allocate<K: Sink>(machine: &mut Machine, command: &Command, sink: &mut K) -> 
 
 /// Runs `print`.
 fn show<K: Sink>(machine: &Machine, operand: &Operand, sink: &mut K) -> Result<(), Failed>
-    ensures { (run : Run) → For machine.now.core machine.now.words run → RunsLine machine.now.core machine.now.words run (command.Print operand.now) (K.state sink.old) (K.state sink.new) result }
+    ensures { (run : Run) → For machine.now run → RunsLine machine.now run (command.Print operand.now) (K.state sink.old) (K.state sink.new) result }
 {
     match operands::value(machine, operand) {
         Ok(value) => {
@@ -227,23 +227,23 @@ fn show<K: Sink>(machine: &Machine, operand: &Operand, sink: &mut K) -> Result<(
 
 /// Runs a read of the file.
 fn read<K: Sink>(machine: &mut Machine, sink: &mut K) -> Result<(), Failed>
-    requires { HasRoom machine.old.core machine.old.words 1 0 }
-    ensures runs { (run : Run) → For machine.old.core machine.old.words run → RunsLine machine.new.core machine.new.words run command.Read (K.state sink.old) (K.state sink.new) result }
-    ensures spent { Spent machine.old.core machine.new.core machine.old.words machine.new.words 1 0 }
+    requires { HasRoom machine.old 1 0 }
+    ensures runs { (run : Run) → For machine.old run → RunsLine machine.new run command.Read (K.state sink.old) (K.state sink.new) result }
+    ensures spent { Spent machine.old machine.new 1 0 }
 {
     match machine.event(Act::Read) {
-        Answer::Done => print::listing(machine, sink),
+        Answer::Done => machine.list(sink),
         answer => print::answer(answer, sink),
     }
 }
 
 /// Clears the slot of an area, and then gives the area back.
 fn give<K: Sink>(machine: &mut Machine, start: u64, sink: &mut K) -> Result<(), Failed>
-    requires { HasRoom machine.old.core machine.old.words 2 0 }
-    ensures so_far { (run : Run) → For machine.old.core machine.old.words run → SoFar [] run (all_happen run (vfree_acts (world_after run.history) start)) machine.new.core machine.new.words (K.state sink.old) (K.state sink.new) result }
-    ensures spent { Spent machine.old.core machine.new.core machine.old.words machine.new.words 2 0 }
+    requires { HasRoom machine.old 2 0 }
+    ensures so_far { (run : Run) → For machine.old run → SoFar [] run (all_happen run (vfree_acts (world_after run.history) start)) machine.new (K.state sink.old) (K.state sink.new) result }
+    ensures spent { Spent machine.old machine.new 2 0 }
 {
-    match machine.core.vm_area(Addr(start)) {
+    match machine.core().vm_area(Addr(start)) {
         Some(area) => {
             let act = Act::Store {
                 addr: behind::slot_word(area.slot),
@@ -258,9 +258,9 @@ fn give<K: Sink>(machine: &mut Machine, start: u64, sink: &mut K) -> Result<(), 
 
 /// Runs `vfree`.
 fn give_area<K: Sink>(machine: &mut Machine, operand: &Operand, sink: &mut K) -> Result<(), Failed>
-    requires { HasRoom machine.old.core machine.old.words 2 0 }
-    ensures runs { (run : Run) → For machine.old.core machine.old.words run → RunsLine machine.new.core machine.new.words run (command.Vfree operand.now) (K.state sink.old) (K.state sink.new) result }
-    ensures spent { Spent machine.old.core machine.new.core machine.old.words machine.new.words 2 0 }
+    requires { HasRoom machine.old 2 0 }
+    ensures runs { (run : Run) → For machine.old run → RunsLine machine.new run (command.Vfree operand.now) (K.state sink.old) (K.state sink.new) result }
+    ensures spent { Spent machine.old machine.new 2 0 }
 {
     match operands::value(machine, operand) {
         Ok(start) => give(machine, start, sink),
@@ -273,9 +273,9 @@ impl Machine {
     pub fn line<K: Sink>(&mut self, command: &Command, sink: &mut K) -> Result<(), Failed>
         requires later { is_memory command.now ≡ false }
         requires few { IsFew command.now }
-        requires room { HasRoom self.old.core self.old.words (2 ^ 38) 3600000 }
-        ensures runs { (run : Run) → For self.old.core self.old.words run → RunsLine self.new.core self.new.words run command.now (K.state sink.old) (K.state sink.new) result }
-        ensures spent { Spent self.old.core self.new.core self.old.words self.new.words (2 ^ 38) 3600000 }
+        requires room { HasRoom self.old (2 ^ 38) 3600000 }
+        ensures runs { (run : Run) → For self.old run → RunsLine self.new run command.now (K.state sink.old) (K.state sink.new) result }
+        ensures spent { Spent self.old self.new (2 ^ 38) 3600000 }
     {
         match *command {
             Command::Memory(_) => unreachable!(),

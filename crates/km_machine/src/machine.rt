@@ -2,31 +2,44 @@
 
 ghost use Rattle.std.specs.Prelude.{◌≡◌, ℕ, ◌+◌, ◌<◌, ◌≤◌, ◌^◌, length, IfOk};
 ghost use Rattle.km_base.specs.declared.acts.Act.TheVariants.{Tick};
+ghost use Rattle.km_edge.specs.Streams.{WritesAll};
 ghost use Rattle.km_model.specs.Headline.{IsMemorySize};
 ghost use Rattle.km_model.specs.History.{ticks_of};
 ghost use Rattle.km_model.specs.Follows.{Run, first_run, happens, told_answer};
+ghost use Rattle.km_model.specs.Output.{listing_text};
 ghost use Rattle.km_machine.specs.Machines.{For, HasRoom, Spent};
 
+use crate::print;
 use km_base::{Act, Answer, NoMemory};
 use km_core::Core;
+use km_edge::{Failed, Sink};
 use km_tree::TreeMap;
 use km_words::Plain;
 use std::alloc::Global;
+use std::marker::Model;
 
 /// The core over a balanced tree, and words of this process's own.
 #[derive(Drop)]
 pub struct Machine {
-    pub core: Core<TreeMap>,
-    pub words: Plain,
+    core: Core<TreeMap>,
+    words: Plain,
+}
+
+impl Model for Machine {
+    ghost use Rattle.km_machine.specs.Machines.{Simulation};
+
+    ghost Value = { Simulation };
+
+    ghost view = { λ m. record { core = m.core; memory = m.words } };
 }
 
 impl Machine {
     /// What a line `memory` makes.
     pub fn new(alloc: Global, words: u64) -> Result<Machine, NoMemory>
         requires { IsMemorySize words }
-        ensures stands { IfOk result (λ m. For m.core m.words (first_run m.core.parts.words)) }
+        ensures stands { IfOk result (λ m. For m (first_run m.core.parts.words)) }
         ensures words { IfOk result (λ m. m.core.parts.words ≡ words) }
-        ensures size { IfOk result (λ m. length m.words ≡ words) }
+        ensures size { IfOk result (λ m. length m.memory ≡ words) }
     {
         let map = TreeMap::new(alloc, words as u32)?;
         Ok(Machine {
@@ -35,13 +48,28 @@ impl Machine {
         })
     }
 
+    /// The core.
+    pub fn core(&self) -> &Core<TreeMap>
+        ensures { result.now ≡ self.now.core }
+    {
+        &self.core
+    }
+
     /// Makes one event.
     pub fn event(&mut self, act: Act) -> Answer
-        requires room { HasRoom self.old.core self.old.words 1 (ticks_of act) }
-        ensures happens { (run : Run) → For self.old.core self.old.words run → For self.new.core self.new.words (happens run act) }
-        ensures answer { (run : Run) → For self.old.core self.old.words run → result ≡ told_answer run act }
-        ensures spent { Spent self.old.core self.new.core self.old.words self.new.words 1 (ticks_of act) }
+        requires room { HasRoom self.old 1 (ticks_of act) }
+        ensures happens { (run : Run) → For self.old run → For self.new (happens run act) }
+        ensures answer { (run : Run) → For self.old run → result ≡ told_answer run act }
+        ensures spent { Spent self.old self.new 1 (ticks_of act) }
     {
         self.core.apply(&mut self.words, act)
+    }
+
+    /// Writes what a read prints: an entry for each listed block, in order of registration.
+    pub(crate) fn list<K: Sink>(&mut self, sink: &mut K) -> Result<(), Failed>
+        ensures listing { (run : Run) → For self.old run → WritesAll (K.state sink.old) (K.state sink.new) (listing_text run.memory run.history) result }
+        ensures same { self.new ≡ self.old }
+    {
+        print::listing(&self.core, &mut self.words, sink)
     }
 }

@@ -11,23 +11,23 @@ use km_base::{Base, Operand, Refusal};
 
 /// The value of a base, or why there is none.
 fn base_value(machine: &Machine, base: Base) -> Result<u64, Refusal>
-    ensures { (run : Run) → For machine.now.core machine.now.words run → result ≡ base_value (world_after run.history) base }
+    ensures { (run : Run) → For machine.now run → result ≡ base_value (world_after run.history) base }
 {
     match base {
         Base::Number(n) => Ok(n),
         Base::Reg { task, reg } => machine
-            .core
+            .core()
             .tasks()
             .reg(task, reg)
             .map_err(|_| Refusal::NoTask),
         Base::Stack(task) => machine
-            .core
+            .core()
             .tasks()
             .stack(task)
             .map(|start| start.0)
             .map_err(|_| Refusal::NoTask),
         Base::Section(name) => machine
-            .core
+            .core()
             .sections()
             .start(name)
             .map(|start| start.0)
@@ -37,7 +37,7 @@ fn base_value(machine: &Machine, base: Base) -> Result<u64, Refusal>
 
 /// The value of an operand, modulo 2^64, or why there is none.
 pub fn value(machine: &Machine, operand: &Operand) -> Result<u64, Refusal>
-    ensures { (run : Run) → For machine.now.core machine.now.words run → result ≡ operand_value (world_after run.history) operand.now }
+    ensures { (run : Run) → For machine.now run → result ≡ operand_value (world_after run.history) operand.now }
 {
     Ok(base_value(machine, operand.base)?.wrapping_add(operand.plus))
 }

@@ -12,7 +12,6 @@ ghost use Rattle.km_track.specs.Tracker.{AreRising, Live, live_with};
 ghost use Rattle.km_machine.specs.Machines.{For};
 ghost use Rattle.km_machine.specs.Scans.{shown};
 
-use crate::machine::Machine;
 use km_base::{Addr, Answer, Info, Span};
 use km_core::Core;
 use km_edge::{Failed, Sink, write_all};
@@ -61,12 +60,10 @@ fn dump<K: Sink>(info: &Info, sink: &mut K) -> Result<(), Failed>
 }
 
 /// Writes what a read prints: an entry for each listed block, in order of registration.
-pub fn listing<K: Sink>(machine: &mut Machine, sink: &mut K) -> Result<(), Failed>
-    ensures listing { (run : Run) → For machine.old.core machine.old.words run → WritesAll (K.state sink.old) (K.state sink.new) (listing_text run.memory run.history) result }
-    ensures same { machine.new ≡ machine.old }
+pub fn listing<K: Sink>(core: &Core<TreeMap>, words: &mut Plain, sink: &mut K) -> Result<(), Failed>
+    ensures listing { (run : Run) → For (record { core = core.now; memory = words.old }) run → WritesAll (K.state sink.old) (K.state sink.new) (listing_text run.memory run.history) result }
+    ensures same { words.new ≡ words.old }
 {
-    let core = &machine.core;
-    let words = &mut machine.words;
     let track = core.track();
     let mut next = first_listed(track);
     while let Some(id) = next {

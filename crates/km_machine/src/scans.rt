@@ -25,9 +25,9 @@ const MOST_SCANS: u64 = 3_602;
 /// At most so many scanner steps; the last is the one that doesn't load.
 pub fn steps<K: Sink>(machine: &mut Machine, n: u64, sink: &mut K) -> Result<(), Failed>
     requires few { n ≤ 1000000000 }
-    requires room { HasRoom machine.old.core machine.old.words n 0 }
-    ensures runs { (run : Run) → For machine.old.core machine.old.words run → RunsLine machine.new.core machine.new.words run (command.Step n) (K.state sink.old) (K.state sink.new) result }
-    ensures spent { Spent machine.old.core machine.new.core machine.old.words machine.new.words n 0 }
+    requires room { HasRoom machine.old n 0 }
+    ensures runs { (run : Run) → For machine.old run → RunsLine machine.new run (command.Step n) (K.state sink.old) (K.state sink.new) result }
+    ensures spent { Spent machine.old machine.new n 0 }
 {
     let last = step_on(machine, n);
     print::answer(last, sink)
@@ -35,9 +35,9 @@ pub fn steps<K: Sink>(machine: &mut Machine, n: u64, sink: &mut K) -> Result<(),
 
 /// Scanner steps until no scan runs; one, which is refused, if none ran.
 pub fn finish<K: Sink>(machine: &mut Machine, sink: &mut K) -> Result<(), Failed>
-    requires { HasRoom machine.old.core machine.old.words (2 ^ 25) 0 }
-    ensures runs { (run : Run) → For machine.old.core machine.old.words run → RunsLine machine.new.core machine.new.words run command.Finish (K.state sink.old) (K.state sink.new) result }
-    ensures spent { Spent machine.old.core machine.new.core machine.old.words machine.new.words (2 ^ 25) 0 }
+    requires { HasRoom machine.old (2 ^ 25) 0 }
+    ensures runs { (run : Run) → For machine.old run → RunsLine machine.new run command.Finish (K.state sink.old) (K.state sink.new) result }
+    ensures spent { Spent machine.old machine.new (2 ^ 25) 0 }
 {
     let last = step_on(machine, MOST_STEPS);
     print::answer(last, sink)
@@ -45,9 +45,9 @@ pub fn finish<K: Sink>(machine: &mut Machine, sink: &mut K) -> Result<(), Failed
 
 /// A whole scan, if none runs.
 pub fn scan<K: Sink>(machine: &mut Machine, sink: &mut K) -> Result<(), Failed>
-    requires { HasRoom machine.old.core machine.old.words (2 ^ 25 + 1) 0 }
-    ensures runs { (run : Run) → For machine.old.core machine.old.words run → RunsLine machine.new.core machine.new.words run (command.Write (Some word.Scan)) (K.state sink.old) (K.state sink.new) result }
-    ensures spent { Spent machine.old.core machine.new.core machine.old.words machine.new.words (2 ^ 25 + 1) 0 }
+    requires { HasRoom machine.old (2 ^ 25 + 1) 0 }
+    ensures runs { (run : Run) → For machine.old run → RunsLine machine.new run (command.Write (Some word.Scan)) (K.state sink.old) (K.state sink.new) result }
+    ensures spent { Spent machine.old machine.new (2 ^ 25 + 1) 0 }
 {
     let begun = machine.event(Act::File(FileCmd::Scan));
     let last = scan_on(machine, begun);
@@ -57,11 +57,11 @@ pub fn scan<K: Sink>(machine: &mut Machine, sink: &mut K) -> Result<(), Failed>
 /// Moves time by so many milliseconds, over the automatic scans that fall due.
 pub fn tick<K: Sink>(machine: &mut Machine, n: u64, sink: &mut K) -> Result<(), Failed>
     requires few { n ≤ 3600000 }
-    requires room { HasRoom machine.old.core machine.old.words (2 ^ 37) n }
-    ensures runs { (run : Run) → For machine.old.core machine.old.words run → RunsLine machine.new.core machine.new.words run (command.Tick n) (K.state sink.old) (K.state sink.new) result }
-    ensures spent { Spent machine.old.core machine.new.core machine.old.words machine.new.words (2 ^ 37) n }
+    requires room { HasRoom machine.old (2 ^ 37) n }
+    ensures runs { (run : Run) → For machine.old run → RunsLine machine.new run (command.Tick n) (K.state sink.old) (K.state sink.new) result }
+    ensures spent { Spent machine.old machine.new (2 ^ 37) n }
 {
-    let target = machine.core.now() + n;
+    let target = machine.core().now() + n;
     let written = automatic_scans(machine, target, sink);
     move_to(machine, target);
     written
@@ -71,9 +71,9 @@ pub fn tick<K: Sink>(machine: &mut Machine, n: u64, sink: &mut K) -> Result<(), 
 fn automatic_scans<K: Sink>(machine: &mut Machine, target: u64, sink: &mut K) -> Result<(), Failed>
     requires ahead { machine.old.core.parts.settings.now ≤ target }
     requires few { target ≤ machine.old.core.parts.settings.now + 3600000 }
-    requires room { HasRoom machine.old.core machine.old.words (2 ^ 37) (target - machine.old.core.parts.settings.now) }
-    ensures runs { (run : Run) → For machine.old.core machine.old.words run → ScansUntil machine.new.core machine.new.words target run (K.state sink.old) (K.state sink.new) result }
-    ensures spent { Spent machine.old.core machine.new.core machine.old.words machine.new.words (2 ^ 37 - 1) (target - machine.old.core.parts.settings.now) }
+    requires room { HasRoom machine.old (2 ^ 37) (target - machine.old.core.parts.settings.now) }
+    ensures runs { (run : Run) → For machine.old run → ScansUntil machine.new target run (K.state sink.old) (K.state sink.new) result }
+    ensures spent { Spent machine.old machine.new (2 ^ 37 - 1) (target - machine.old.core.parts.settings.now) }
 {
     let mut written = Ok(());
     for _ in 0..MOST_SCANS {
@@ -89,9 +89,9 @@ fn automatic_scans<K: Sink>(machine: &mut Machine, target: u64, sink: &mut K) ->
 
 /// Makes the automatic scan that is due at a moment, and gives the last answer.
 fn automatic_scan(machine: &mut Machine, due: u64) -> Answer
-    requires { HasRoom machine.old.core machine.old.words (2 ^ 25 + 2) (due - machine.old.core.parts.settings.now) }
-    ensures scanned { (run : Run) → For machine.old.core machine.old.words run → Scanned machine.new.core machine.new.words run.history (happens (run_at run due) act.AutoBegin) result }
-    ensures spent { Spent machine.old.core machine.new.core machine.old.words machine.new.words (2 ^ 25 + 2) (due - machine.old.core.parts.settings.now) }
+    requires { HasRoom machine.old (2 ^ 25 + 2) (due - machine.old.core.parts.settings.now) }
+    ensures scanned { (run : Run) → For machine.old run → Scanned machine.new run.history (happens (run_at run due) act.AutoBegin) result }
+    ensures spent { Spent machine.old machine.new (2 ^ 25 + 2) (due - machine.old.core.parts.settings.now) }
 {
     move_to(machine, due);
     let begun = machine.event(Act::AutoBegin);
@@ -100,10 +100,10 @@ fn automatic_scan(machine: &mut Machine, due: u64) -> Answer
 
 /// When the next automatic scan is due, if it is by a moment.
 fn due_by(machine: &Machine, target: u64) -> Option<u64>
-    ensures due { (run : Run) → For machine.now.core machine.now.words run → result ≡ due_in target (world_after run.history) }
+    ensures due { (run : Run) → For machine.now run → result ≡ due_in target (world_after run.history) }
     ensures by { IfSome result (λ m. m ≤ target) }
 {
-    match machine.core.auto_at() {
+    match machine.core().auto_at() {
         Some(due) if due <= target => Some(due),
         _ => None,
     }
@@ -111,20 +111,20 @@ fn due_by(machine: &Machine, target: u64) -> Option<u64>
 
 /// Moves time to a moment that isn't before it.
 fn move_to(machine: &mut Machine, moment: u64)
-    requires { HasRoom machine.old.core machine.old.words 1 (moment - machine.old.core.parts.settings.now) }
-    ensures moved { (run : Run) → For machine.old.core machine.old.words run → For machine.new.core machine.new.words (run_at run moment) }
-    ensures spent { Spent machine.old.core machine.new.core machine.old.words machine.new.words 1 (moment - machine.old.core.parts.settings.now) }
+    requires { HasRoom machine.old 1 (moment - machine.old.core.parts.settings.now) }
+    ensures moved { (run : Run) → For machine.old run → For machine.new (run_at run moment) }
+    ensures spent { Spent machine.old machine.new 1 (moment - machine.old.core.parts.settings.now) }
 {
-    let wait = moment.saturating_sub(machine.core.now());
+    let wait = moment.saturating_sub(machine.core().now());
     let _ = machine.event(Act::Tick(wait));
 }
 
 /// Makes a whole scan if an event began one, by its answer, and gives the last answer.
 fn scan_on(machine: &mut Machine, begun: Answer) -> Answer
-    requires { HasRoom machine.old.core machine.old.words (2 ^ 25) 0 }
-    ensures scanned { (first : History) (run : Run) → For machine.old.core machine.old.words run → newest_answer run.history ≡ Some begun → GoesOn first (shown begun) run.history
-        → Scanned machine.new.core machine.new.words first run result }
-    ensures spent { Spent machine.old.core machine.new.core machine.old.words machine.new.words (2 ^ 25) 0 }
+    requires { HasRoom machine.old (2 ^ 25) 0 }
+    ensures scanned { (first : History) (run : Run) → For machine.old run → newest_answer run.history ≡ Some begun → GoesOn first (shown begun) run.history
+        → Scanned machine.new first run result }
+    ensures spent { Spent machine.old machine.new (2 ^ 25) 0 }
 {
     match begun {
         Answer::Done => step_on(machine, MOST_STEPS),
@@ -134,9 +134,9 @@ fn scan_on(machine: &mut Machine, begun: Answer) -> Answer
 
 /// Makes at most so many scanner steps, and gives the answer of the one that doesn't load, or `Done`.
 fn step_on(machine: &mut Machine, most: u64) -> Answer
-    requires { HasRoom machine.old.core machine.old.words most 0 }
-    ensures stepped { (run : Run) → For machine.old.core machine.old.words run → Stepped machine.new.core machine.new.words run most result }
-    ensures spent { Spent machine.old.core machine.new.core machine.old.words machine.new.words most 0 }
+    requires { HasRoom machine.old most 0 }
+    ensures stepped { (run : Run) → For machine.old run → Stepped machine.new run most result }
+    ensures spent { Spent machine.old machine.new most 0 }
 {
     for _ in 0..most {
         match machine.event(Act::Step) {

@@ -15,8 +15,8 @@ returns-in-Kzalloc-clause-so_far g c = λ word first run k given s.
     let n = c.set-in-Kzalloc.new in
     let asked = c.in-Kzalloc.size in
     let cleared = c.clear-cleared.ensures.so_far word first run k (gave c.args.command.now (command.Kzalloc asked c.in-Kzalloc.reg) a c.in-Kzalloc.reg (act.Kmalloc asked) run.history c.in-Kzalloc.is (λ w. refl) given) s in
-    subst (λ l. SoFar word first (all_happen run (acts_behind (world_after run.history) l a)) n.machine.core n.machine.words k (g.K.Sink.state n.sink) c.set-in-Kzalloc.result) (sym c.in-Kzalloc.is)
-    (subst (λ x. SoFar word first x n.machine.core n.machine.words k (g.K.Sink.state n.sink) c.set-in-Kzalloc.result) (sym (happen_append run (zeros a (kmalloc_span asked / 8)) (set_register c.in-Kzalloc.reg a)))
+    subst (λ l. SoFar word first (all_happen run (acts_behind (world_after run.history) l a)) n.machine k (g.K.Sink.state n.sink) c.set-in-Kzalloc.result) (sym c.in-Kzalloc.is)
+    (subst (λ x. SoFar word first x n.machine k (g.K.Sink.state n.sink) c.set-in-Kzalloc.result) (sym (happen_append run (zeros a (kmalloc_span asked / 8)) (set_register c.in-Kzalloc.reg a)))
     (c.set-in-Kzalloc.ensures.so_far word first _ k cleared))
 
 pub returns-in-Vmalloc-clause-so_far : goal.returns-in-Vmalloc-clause-so_far
@@ -25,6 +25,6 @@ returns-in-Vmalloc-clause-so_far g c = λ word first run k given s.
     let n = c.set-in-Vmalloc.new in
     let asked = c.in-Vmalloc.size in
     let headed = c.write_head-headed.ensures.so_far word first run k (gave c.args.command.now (command.Vmalloc asked c.in-Vmalloc.reg) a c.in-Vmalloc.reg (act.VmTake asked) run.history c.in-Vmalloc.is (λ w. refl) given) s in
-    subst (λ l. SoFar word first (all_happen run (acts_behind (world_after run.history) l a)) n.machine.core n.machine.words k (g.K.Sink.state n.sink) c.set-in-Vmalloc.result) (sym c.in-Vmalloc.is)
-    (subst (λ x. SoFar word first x n.machine.core n.machine.words k (g.K.Sink.state n.sink) c.set-in-Vmalloc.result) (sym (happen_append run (head_stores (world_after run.history) asked a) (set_register c.in-Vmalloc.reg a)))
+    subst (λ l. SoFar word first (all_happen run (acts_behind (world_after run.history) l a)) n.machine k (g.K.Sink.state n.sink) c.set-in-Vmalloc.result) (sym c.in-Vmalloc.is)
+    (subst (λ x. SoFar word first x n.machine k (g.K.Sink.state n.sink) c.set-in-Vmalloc.result) (sym (happen_append run (head_stores (world_after run.history) asked a) (set_register c.in-Vmalloc.reg a)))
     (c.set-in-Vmalloc.ensures.so_far word first _ k headed))

@@ -3,6 +3,7 @@ use Rattle.km_base.specs.declared.acts.Act.TheVariants as act
 use Rattle.km_model.specs.Placement.{head_with, pages_for, slot_of_area}
 use Rattle.km_model.specs.Follows.{all_happen, happens}
 use Rattle.km_model.specs.Expansion.{stores_from, world_after}
+use Rattle.km_core.specs.Cores.{Seen, Stands}
 use Rattle.km_machine.specs.Lines.{SoFar}
 use Rattle.km_machine.proofs.Stores.{area_asked, head_low, head_made, head_values}
 use Rattle.km_machine.proofs.behind.write_head.Goals as goal
@@ -16,10 +17,11 @@ returns-in-Some-clause-so_far g c = λ word first run k given s.
     let filled = c.fill-filled.new in
     let last = c.made.new in
     let f = s.stands in
-    let slot_is : Some slot ≡ slot_of_area (world_after run.history).used a = c.in-Some.ensures.slot run.history f.state f.stands ∙ ap (λ used. slot_of_area used a) f.stands.history.allocations in
-    let head_is : head_with (world_after run.history).used slot ≡ Some head = ap (λ used. head_with used slot) (sym f.stands.history.allocations) ∙ c.in-Some.ensures.head run.history f.state f.stands in
-    let stored = subst (λ b. SoFar word first (all_happen run (stores_from head (head_values a b))) filled.machine.core filled.machine.words k (g.K.Sink.state filled.sink) c.fill-filled.result)
-    (c.area_bytes.ensures (area_asked m.core m.words run c.args.size a f given)) (c.fill-filled.ensures.so_far word first run k (head_low m.core m.words run slot head f head_is) s) in
-    head_made (λ x. SoFar word first x last.machine.core last.machine.words k (g.K.Sink.state last.sink) c.made.result) (world_after run.history) run c.args.size a slot head slot_is head_is
-    (subst (λ w. SoFar word first (happens (all_happen run (stores_from head (head_values a (4096 * pages_for c.args.size)))) (act.Store w head)) last.machine.core last.machine.words k (g.K.Sink.state last.sink) c.made.result) c.slot_word.ensures
+    let at = subst (λ (x : Seen). Stands x run.history f.state) (sym c.core.ensures) f.stands in
+    let slot_is : Some slot ≡ slot_of_area (world_after run.history).used a = c.in-Some.ensures.slot run.history f.state at ∙ ap (λ used. slot_of_area used a) f.stands.history.allocations in
+    let head_is : head_with (world_after run.history).used slot ≡ Some head = ap (λ used. head_with used slot) (sym f.stands.history.allocations) ∙ c.in-Some.ensures.head run.history f.state at in
+    let stored = subst (λ b. SoFar word first (all_happen run (stores_from head (head_values a b))) filled.machine k (g.K.Sink.state filled.sink) c.fill-filled.result)
+    (c.area_bytes.ensures (area_asked m run c.args.size a f given)) (c.fill-filled.ensures.so_far word first run k (head_low m run slot head f head_is) s) in
+    head_made (λ x. SoFar word first x last.machine k (g.K.Sink.state last.sink) c.made.result) (world_after run.history) run c.args.size a slot head slot_is head_is
+    (subst (λ w. SoFar word first (happens (all_happen run (stores_from head (head_values a (4096 * pages_for c.args.size)))) (act.Store w head)) last.machine k (g.K.Sink.state last.sink) c.made.result) c.slot_word.ensures
     (c.made.ensures.so_far word first _ k stored))

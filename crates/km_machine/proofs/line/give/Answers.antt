@@ -1,9 +1,10 @@
-use Rattle.std.proofs.Common.{◌≡◌, ◌∙◌, List, [], ◌∷◌, Some, None, ap, subst}
+use Rattle.std.proofs.Common.{◌≡◌, ◌∙◌, List, [], ◌∷◌, Some, None, ap, sym, subst}
 use Rattle.km_base.specs.declared.acts.Act.{Act}
 use Rattle.km_base.specs.declared.acts.Act.TheVariants as act
 use Rattle.km_model.specs.Placement.{slot_of_area}
 use Rattle.km_model.specs.Follows.{all_happen, happens}
 use Rattle.km_model.specs.Expansion.{slot_word, world_after}
+use Rattle.km_core.specs.Cores.{Seen, Stands}
 use Rattle.km_machine.specs.Lines.{SoFar}
 use Rattle.km_machine.proofs.Lines.{begun}
 use Rattle.km_machine.proofs.line.give.Goals as goal
@@ -13,9 +14,10 @@ returns-in-Some-clause-so_far g c = λ run f.
     let m = c.args.machine.now in
     let a = c.args.start in
     let k = g.K.Sink.state c.args.sink.now in
-    let slot : Some c.in-Some.area.slot ≡ slot_of_area (world_after run.history).used a = c.in-Some.ensures.slot run.history f.state f.stands ∙ ap (λ used. slot_of_area used a) f.stands.history.allocations in
-    let first = subst (λ w. SoFar [] run (happens run (act.Store w 0)) c.made-written.new.machine.core c.made-written.new.machine.words k (g.K.Sink.state c.made-written.new.sink) c.made-written.result)
-    c.slot_word.ensures (c.made-written.ensures.so_far [] run run k (begun [] m.core m.words run k f)) in
+    let at = subst (λ (x : Seen). Stands x run.history f.state) (sym c.core.ensures) f.stands in
+    let slot : Some c.in-Some.area.slot ≡ slot_of_area (world_after run.history).used a = c.in-Some.ensures.slot run.history f.state at ∙ ap (λ used. slot_of_area used a) f.stands.history.allocations in
+    let first = subst (λ w. SoFar [] run (happens run (act.Store w 0)) c.made-written.new.machine k (g.K.Sink.state c.made-written.new.sink) c.made-written.result)
+    c.slot_word.ensures (c.made-written.ensures.so_far [] run run k (begun [] m run k f)) in
     subst
     (λ o. SoFar [] run (all_happen run (elim o as (λ _. List Act) [ None ↦ act.VmGive a ∷ [] | Some s ↦ act.Store (slot_word s) 0 ∷ act.VmGive a ∷ [] ]))
-    c.made.new.machine.core c.made.new.machine.words k (g.K.Sink.state c.made.new.sink) c.made.result) slot (c.made.ensures.so_far [] run _ k first)
+    c.made.new.machine k (g.K.Sink.state c.made.new.sink) c.made.result) slot (c.made.ensures.so_far [] run _ k first)

@@ -12,12 +12,12 @@ returns-in-Ok-clause-runs g c = λ run f.
     let k = g.K.Sink.state c.args.sink.now in
     let k' = g.K.Sink.state c.made.new.sink in
     let act = c.in-Ok.act in
-    plain_ran c.made.new.machine.core c.made.new.machine.words run line k k' c.made.result act (alone_plain line c.requires.alone) (c.in-Ok.ensures.acts run f)
-    (subst (λ l. SoFar (keyword line) run (all_happen (happens run act) l) c.made.new.machine.core c.made.new.machine.words k k' c.made.result)
+    plain_ran c.made.new.machine run line k k' c.made.result act (alone_plain line c.requires.alone) (c.in-Ok.ensures.acts run f)
+    (subst (λ l. SoFar (keyword line) run (all_happen (happens run act) l) c.made.new.machine k k' c.made.result)
     (sym (none_further run.history act (told_answer run act) line (simply_answered run act c.in-Ok.ensures.simple)))
-    (c.made.ensures.so_far (keyword line) run run k (begun (keyword line) m.core m.words run k f)))
+    (c.made.ensures.so_far (keyword line) run run k (begun (keyword line) m run k f)))
 
 pub returns-in-Err-clause-runs : goal.returns-in-Err-clause-runs
 returns-in-Err-clause-runs g c = λ run f.
-    refused_line c.args.machine.now.core c.args.machine.now.words run c.args.command.now (g.K.Sink.state c.args.sink.now) (g.K.Sink.state c.refuse.new.sink) c.refuse.result c.in-Err.refusal
+    refused_line c.args.machine.now run c.args.command.now (g.K.Sink.state c.args.sink.now) (g.K.Sink.state c.refuse.new.sink) c.refuse.result c.in-Err.refusal
     (alone_plain c.args.command.now c.requires.alone) f (c.in-Err.ensures.acts run f) c.refuse.ensures

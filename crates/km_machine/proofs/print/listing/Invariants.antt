@@ -5,8 +5,8 @@ use Rattle.km_machine.proofs.print.listing.Given as goal
 abbrev pub invariant-loop-next : goal.invariant-loop-next
 invariant-loop-next g l = record {
   same : l.words ≡ l.initial.words;
-  listing : Listing l.fn.machine.core.parts.objects.tracker l.fn.machine.core.parts.settings.now l.fn.machine.words (g.K.Sink.state l.initial.sink) (g.K.Sink.state l.sink) l.next;
+  listing : Listing l.core.parts.objects.tracker l.core.parts.settings.now l.initial.words (g.K.Sink.state l.initial.sink) (g.K.Sink.state l.sink) l.next;
 }
 
 abbrev pub decreases-loop-next : goal.decreases-loop-next
-decreases-loop-next g l = left l.next l.fn.machine.core.parts.objects.tracker.live
+decreases-loop-next g l = left l.next l.core.parts.objects.tracker.live

@@ -7,7 +7,7 @@ use Rattle.km_machine.proofs.scans.automatic_scans.Given as goal
 -- so many automatic scans were made, and what they print was written, or written up to a fault
 abbrev pub invariant-loop : goal.invariant-loop
 invariant-loop g l = record {
-  pacing : (run : Run) → For l.initial.machine.core l.initial.machine.words run
-      → Pacing l.machine.core l.machine.words l.target run l.counter (g.K.Sink.state l.initial.sink) (g.K.Sink.state l.sink) l.written;
-  spent : Spent l.initial.machine.core l.machine.core l.initial.machine.words l.machine.words (33554434 * l.counter) (l.target - l.initial.machine.core.parts.settings.now);
+  pacing : (run : Run) → For l.initial.machine run
+      → Pacing l.machine l.target run l.counter (g.K.Sink.state l.initial.sink) (g.K.Sink.state l.sink) l.written;
+  spent : Spent l.initial.machine l.machine (33554434 * l.counter) (l.target - l.initial.machine.core.parts.settings.now);
 }

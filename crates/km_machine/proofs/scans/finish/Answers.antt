@@ -11,7 +11,7 @@ returns-clause-runs g c = λ run stands.
     let k' = g.K.Sink.state c.answer.new.sink in
     record {
       behind = s.behind;
-      makes = finished _ _ _ _ run 33554431 _ stands s (lit≤ tt);
+      makes = finished _ _ run 33554431 _ stands s (lit≤ tt);
       stands = s.stands;
       wrote = subst (λ t. WritesAll k k' t c.answer.result) (sym (goes_text run.memory run.history s.behind.history _ s.goes)) c.answer.ensures;
     }

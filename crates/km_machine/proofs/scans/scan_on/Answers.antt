@@ -10,7 +10,7 @@ returns-in-Done-clause-scanned c = λ first run stands newest goes.
     let s = c.step_on.ensures.stepped run stands in
     record {
       behind = s.behind;
-      makes = scan_begun run s.behind (newest ∙ ap Some c.in-Done.is) (finished _ _ _ _ run 33554431 _ stands s (lit≤ tt));
+      makes = scan_begun run s.behind (newest ∙ ap Some c.in-Done.is) (finished _ _ run 33554431 _ stands s (lit≤ tt));
       stands = s.stands;
       goes = goes_more first run.history s.behind.history [] (shown c.step_on.result) (subst (λ a. GoesOn first (shown a) run.history) c.in-Done.is goes) s.goes;
     }
