@@ -17,14 +17,13 @@ use Rattle.km_state.specs.StateAnswers.{state_answer}
 use Rattle.km_state.specs.StateAfter.{state_after, allocated, registered_at, task_started}
 use Rattle.km_slab.specs.Blocks.{kmalloc_answer}
 use Rattle.km_sections.specs.Named.{section_answer}
-use Rattle.km_hosts.specs.Hosting.{Hold, boot_answer, Hosting, at, done, with_use, words_in}
+use Rattle.km_hosts.specs.Hosting.{Hold, boot_answer, Hosting, done, with_use, words_in}
 use Rattle.km_objects.specs.Objects.{Agree, AreOf}
 use Rattle.km_laws.specs.Laws.{IsPlaced}
 use Rattle.km_laws.specs.Placed.{InMemory, StackPlaced, WholeWords}
 use Rattle.km_scan.proofs.FitLaws.{start_kept}
 use Rattle.km_tasks.specs.Roll.{start_answer, with_task}
-use Rattle.km_core.specs.Parts.{Answers, HostsStand, IsReady, IsWhole, Parts, StandsAs, Touches}
-use Rattle.km_words.specs.Told.{Told}
+use Rattle.km_core.specs.Parts.{Answers, HostsStand, IsReady, IsWhole, Parts, StandsAs}
 use Rattle.km_core.proofs.Marks.{counted, answer_kmalloc, after_kmalloc, answer_section, after_section, answer_boot, after_boot, answer_start, after_start}
 use Rattle.km_core.proofs.Standing.{counted_stands, refused, same_objects}
 
@@ -154,12 +153,3 @@ start_answers p h name (Ok _) ready answer roll held same pages =
     })
     (λ s r. same_objects p.objects s (task_started s name (page_start (lowest_run s.used 1))) refl refl refl refl refl refl r)
     refl refl refl
-
--- what is done or refused touches no word where neither does
-pub quietly : (act : Act) (o : Result (Unit {0}) Refusal) → ((t : Told) → Touches act Done t t) → ((r : Refusal) (t : Told) → Touches act (Refused r) t t) → (t : Told) → Touches act (done o) t t
-quietly act (Ok _) d r t = d t
-quietly act (Err e) d r t = r e t
-
-pub quietly_at : (act : Act) (o : Result Addr Refusal) → ((a : ℕ) (t : Told) → Touches act (At a) t t) → ((r : Refusal) (t : Told) → Touches act (Refused r) t t) → (t : Told) → Touches act (at o) t t
-quietly_at act (Ok a) d r t = d a.0 t
-quietly_at act (Err e) d r t = r e t

@@ -1,5 +1,5 @@
 -- Room for events and milliseconds, and what is spent of it.
-use Rattle.std.proofs.Common.{ℕ, ◌+◌, ◌≤◌, List, refl, sym, ◌∙◌, arith}
+use Rattle.std.proofs.Common.{ℕ, ◌+◌, ◌≤◌, refl, sym, ◌∙◌, arith}
 use Rattle.km_machine.specs.Machines.{Simulation, HasRoom, Spent}
 
 -- nothing is spent

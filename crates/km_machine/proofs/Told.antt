@@ -16,7 +16,7 @@ use Rattle.km_model.specs.Follows.{Run, past_of, told_answer, told_value, happen
 use Rattle.km_model.proofs.MemoryLaws.{length-memory_after_act}
 use Rattle.km_state.specs.State.{State}
 use Rattle.km_words.specs.Told.{Told, of_memory}
-use Rattle.km_core.specs.Cores.{Seen, Stands}
+use Rattle.km_core.specs.Cores.{Stands}
 use Rattle.km_core.specs.Parts.{Touches}
 use Rattle.km_machine.specs.Machines.{Simulation, For}
 
