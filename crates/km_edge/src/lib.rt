@@ -8,9 +8,11 @@ pub mod lines;
 pub mod memory;
 pub mod standard;
 pub mod streams;
+pub mod turns;
 
 pub use errors::Failed;
 pub use lines::{Cut, Lines};
 pub use memory::{CountSink, MemSink, MemSource};
 pub use standard::{StdSink, StdSource};
 pub use streams::{Sink, Source, write_all};
+pub use turns::{ReadAfterFlush, SharedWriter};

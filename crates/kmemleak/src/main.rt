@@ -1,13 +1,14 @@
 //! The leak detector over a simulated kernel: reads a script on standard input and writes its reports to standard output.
 #![tactic(auto)]
 
-use km_edge::{StdSink, StdSource};
+use km_edge::{ReadAfterFlush, SharedWriter, StdSink, StdSource};
 use km_engine::{Status, run};
+use std::cell::RefCell;
 use std::io::{BufWriter, ErrorKind};
 use std::process::ExitCode;
 use std::{env, io};
 
-/// The bytes of output that are kept back before they are written.
+/// The bytes of output that are kept back at most. They are written before the next read of input.
 const KEPT_BACK: usize = 65_536;
 
 /// What a status means, for standard error; nothing where standard output says it.
@@ -29,8 +30,9 @@ fn work(rt: &HostRuntime) -> io::Result<Status> {
         words.push(word)?;
     }
     let writer = BufWriter::with_capacity(rt.alloc(), KEPT_BACK, rt.stdout())?;
-    let mut source = StdSource::new(rt.stdin());
-    let mut sink = StdSink::new(writer);
+    let writer = RefCell::new(writer);
+    let mut source = StdSource::new(ReadAfterFlush::new(rt.stdin(), &writer));
+    let mut sink = StdSink::new(SharedWriter::new(&writer));
     let status = run(rt.alloc(), words.as_slice(), &mut source, &mut sink);
     match sink.flush() {
         Ok(()) => Ok(status),
