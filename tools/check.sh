@@ -1,5 +1,6 @@
 #!/usr/bin/env bash
-# Tests the program's exit statuses and the tools, by the program that was built; in less than a minute.
+# Tests the program's exit statuses, its answers while one types, and the tools, by the program that was built; in less
+# than a minute.
 # usage: [PROGRAM=FILE] tools/check.sh
 set -u
 cd "$(dirname "$0")/.." || exit 1
@@ -9,7 +10,7 @@ if [ ! -x "$program" ]; then
   exit 1
 fi
 failed=0
-for test in tools/test-statuses.sh tools/test-km.sh; do
+for test in tools/test-statuses.sh tools/test-answers.sh tools/test-km.sh; do
   "$test" || failed=1
 done
 exit "$failed"
