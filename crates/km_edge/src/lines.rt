@@ -55,6 +55,7 @@ impl Lines {
     }
 
     /// The bytes that are held.
+    #[inline]
     pub fn held(&self) -> &[u8]
         ensures held { result.now ≡ self.now }
         ensures room { length result.now ≤ 4096 }
@@ -71,6 +72,7 @@ impl Lines {
     }
 
     /// What comes next; `ended` says that the input has no more bytes. It takes nothing: `pass` does.
+    #[inline]
     pub fn cut(&self, ended: bool) -> Cut<'_>
         ensures { seen result ≡ next_of ended self.now }
     {
@@ -80,6 +82,7 @@ impl Lines {
     }
 
     /// Takes a line of as many bytes, and the line feed behind it where there is one.
+    #[inline]
     pub fn pass(&mut self, line: usize)
         requires { line ≤ length self.old }
         ensures { self.new ≡ drop (line + 1) self.old }
@@ -115,6 +118,7 @@ impl Lines {
 }
 
 /// The place of the first line feed.
+#[inline(always)]
 fn first_feed(bytes: &[u8]) -> Option<usize>
     ensures { result ≡ position is_line_feed bytes.now }
 {
@@ -122,6 +126,7 @@ fn first_feed(bytes: &[u8]) -> Option<usize>
 }
 
 /// What comes next, by the place of the first line feed among the first 257 bytes.
+#[inline(always)]
 fn cut_at(held: &[u8], feed: Option<usize>, ended: bool) -> Cut<'_>
     requires { IfSome feed (λ i. i < length held.now) }
     ensures { seen result ≡ next_at feed ended held.now }
