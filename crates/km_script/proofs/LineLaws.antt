@@ -9,6 +9,11 @@ use Rattle.km_model.specs.Pieces.{Piece, pieces}
 use Rattle.km_model.specs.Grammar.{line_by, line_of, rules, is_comment, command_line, words_read, is_foreign}
 use Rattle.km_script.specs.Left.{Left, behind_word, first_piece}
 
+-- a line without bytes is blank
+pub no_bytes : (first : Bool) → line_of first [] ≡ Ok line.Blank
+unfolding line_by
+no_bytes first = refl
+
 -- a line that is longer than a line may be
 pub too_long : (first : Bool) (bytes : List ℕ) → 256 < length bytes → line_of first bytes ≡ Err (record { column = 257 })
 unfolding line_by

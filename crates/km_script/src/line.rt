@@ -43,16 +43,12 @@ fn read_words(word: Word, words: &mut Words, first: bool) -> Result<Line, NotACo
     }
 }
 
-/// Reads a line without its line feed; `first` says that no command was read before.
-///
-/// A line is blank, a comment, or a command. It is refused at the first of these columns: 257, if it
-/// is longer than 256 bytes; of the first byte that no command has; of its first word, if that is
-/// `memory` and not the first command, or the other way round; of the first word that doesn't fit;
-/// behind its last byte, if a word is missing.
+/// Reads a line by its words.
 ///
 /// Each byte is looked at twice at most: where its word's end, or a word too many, is looked for, and
 /// where the word is read, or, behind the words that were taken, for a byte that no command has.
-pub fn read_line(bytes: &[u8], first: bool) -> Result<Line, NotACommand>
+#[inline(never)]
+fn read_by_words(bytes: &[u8], first: bool) -> Result<Line, NotACommand>
     ensures { result ≡ line_of first bytes.now }
 {
     if bytes.len() > LONGEST_LINE {
@@ -69,5 +65,22 @@ pub fn read_line(bytes: &[u8], first: bool) -> Result<Line, NotACommand>
     match words.foreign() {
         Some(column) => Err(NotACommand { column }),
         None => read,
+    }
+}
+
+/// Reads a line without its line feed; `first` says that no command was read before.
+///
+/// A line is blank, a comment, or a command. It is refused at the first of these columns: 257, if it
+/// is longer than 256 bytes; of the first byte that no command has; of its first word, if that is
+/// `memory` and not the first command, or the other way round; of the first word that doesn't fit;
+/// behind its last byte, if a word is missing.
+#[inline]
+pub fn read_line(bytes: &[u8], first: bool) -> Result<Line, NotACommand>
+    ensures { result ≡ line_of first bytes.now }
+{
+    match bytes {
+        // Such a line is common, and has no need of a stack frame for words.
+        [] => Ok(Line::Blank),
+        _ => read_by_words(bytes, first),
     }
 }
