@@ -83,7 +83,7 @@ impl Script {
         match read_line(bytes, self.is_fresh()) {
             Err(refused) => Err(refuse(self.number, refused.column, sink)),
             Ok(line) => {
-                run(&mut self.machine, alloc, line, sink)?;
+                run(&mut self.machine, alloc, &line, sink)?;
                 self.number += 1;
                 Ok(())
             }
@@ -95,23 +95,41 @@ impl Script {
 fn run<K: Sink>(
     machine: &mut Option<Machine>,
     alloc: Global,
-    line: Line,
+    line: &Line,
     sink: &mut K,
 ) -> Result<(), Status>
-    requires fit { IsFitLine (is_none machine.old) line }
-    requires room { HasRoomToRun machine.old line }
-    ensures runs { Runs machine.old machine.new line (K.state sink.old) (K.state sink.new) result }
-    ensures spent { IfOk result (λ _. SpendsOn machine.old line machine.new) }
+    requires fit { IsFitLine (is_none machine.old) line.now }
+    requires room { HasRoomToRun machine.old line.now }
+    ensures runs { Runs machine.old machine.new line.now (K.state sink.old) (K.state sink.new) result }
+    ensures spent { IfOk result (λ _. SpendsOn machine.old line.now machine.new) }
 {
-    let Line::Command(command) = line else {
-        return Ok(());
-    };
+    match line {
+        Line::Blank => Ok(()),
+        Line::Command(command) => run_command(machine, alloc, command, sink),
+    }
+}
+
+/// Runs a command.
+///
+/// It stays a call: what commands need of the stack is large and set to 0 first, and a blank line has no need of it.
+#[inline(never)]
+fn run_command<K: Sink>(
+    machine: &mut Option<Machine>,
+    alloc: Global,
+    command: &Command,
+    sink: &mut K,
+) -> Result<(), Status>
+    requires fit { IsFit (is_none machine.old) command.now }
+    requires room { HasRoomToRun machine.old (Line.Command command.now) }
+    ensures runs { Runs machine.old machine.new (Line.Command command.now) (K.state sink.old) (K.state sink.new) result }
+    ensures spent { IfOk result (λ _. SpendsOn machine.old (Line.Command command.now) machine.new) }
+{
     match machine {
         None => {
             *machine = Some(boot(alloc, command)?);
             Ok(())
         }
-        Some(machine) => match machine.line(&command, sink) {
+        Some(machine) => match machine.line(command, sink) {
             Ok(()) => Ok(()),
             Err(_) => Err(Status::WriteFault),
         },
@@ -119,14 +137,14 @@ fn run<K: Sink>(
 }
 
 /// Makes the machine that the first command asks for.
-fn boot(alloc: Global, command: Command) -> Result<Machine, Status>
-    requires { IsFit true command }
+fn boot(alloc: Global, command: &Command) -> Result<Machine, Status>
+    requires { IsFit true command.now }
     ensures stands { IfOk result (λ m. For m (first_run m.core.parts.words)) }
-    ensures asked { IfOk result (λ m. command ≡ Memory m.core.parts.words) }
+    ensures asked { IfOk result (λ m. command.now ≡ Memory m.core.parts.words) }
     ensures size { IfOk result (λ m. length m.memory ≡ m.core.parts.words) }
-    ensures err { IfErr result (λ status. (status ≡ Status.NoMemory) × IsMemory (Line.Command command)) }
+    ensures err { IfErr result (λ status. (status ≡ Status.NoMemory) × IsMemory (Line.Command command.now)) }
 {
-    let Command::Memory(words) = command else {
+    let Command::Memory(words) = *command else {
         unreachable!()
     };
     match Machine::new(alloc, words) {
