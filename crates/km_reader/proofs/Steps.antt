@@ -1,11 +1,12 @@
 -- Bytes that were taken in one read, and in several.
-use Rattle.std.proofs.Common.{◌≡◌, ℕ, ◌+◌, ◌-◌, ◌<◌, ◌≤◌, false, List, [], ◌∷◌, ◌++◌, length, take, drop, refl, ap, sym, ◌∙◌, arith, append_assoc, length-append, length-drop}
+use Rattle.std.proofs.Common.{◌≡◌, ℕ, ◌+◌, ◌-◌, ◌<◌, ◌≤◌, false, List, [], ◌∷◌, ◌++◌, length, take, drop, refl, ap, sym, subst, ◌∙◌, arith, append_assoc, length-append, length-drop}
 use Rattle.std.proofs.lemmas.List.{append-nil, take-append-drop}
 use Rattle.std.proofs.Math.Seq.{take-append_seam}
 use Rattle.std.specs.Io.KnownBytes.{Consumes}
 use Rattle.km_edge.specs.Streams.{SourceState}
-use Rattle.km_edge.specs.Lines.{Whole, next_of}
-use Rattle.km_reader.specs.Reading.{Went}
+use Rattle.km_edge.specs.Lines.{Whole, Unknown, next_of}
+use Rattle.km_reader.specs.Reading.{IsFound, Went}
+use Rattle.km_reader.specs.declared.reader.Next.TheVariants as next
 use Rattle.km_reader.proofs.LineLists.{held_line, feed_within}
 use Rattle.km_reader.proofs.Sources.{consumes_none, consumes_more, last_byte}
 
@@ -28,6 +29,12 @@ went_none s held total limit = record {
   size = omega arith;
   beyond = omega arith;
 }
+
+-- the same, by what is held and how many bytes were taken in other words
+pub went_as : (s s' : SourceState) (held lines same : List ℕ) (total limit n k : ℕ) → same ≡ lines → k ≡ n
+    → Went s s' held total limit lines n → Went s s' held total limit same k
+went_as s s' held lines same total limit n k e f w =
+    subst (λ x. Went s s' held total limit x k) (sym e) (subst (λ m. Went s s' held total limit lines m) (sym f) w)
 
 -- one read within the limit
 pub went_within : (s s' : SourceState) (held all : List ℕ) (total limit n : ℕ) → length all ≡ length held + n → take (length held) all ≡ held
@@ -79,3 +86,17 @@ given_line lines l w =
     let front : take (length l + 1 - 1) lines ≡ l =
     ap (λ k. take k lines) (omega arith) ∙ ap (take (length l)) is_line.parts ∙ take-append_seam l (10 ∷ drop (length l + 1) lines) in
     (ap Whole front ∙ w, omega arith, feed_within l lines is_line)
+
+-- a line that is found among these bytes is one whatever the source has left
+pub found_line : (held lines l : List ℕ) (taken limit : ℕ) → lines ≡ held → Whole l ≡ next_of false lines
+    → IsFound held (record { lines = lines; skip = length l + 1; taken = taken; limit = limit }) next.Line
+found_line held lines l taken limit same w =
+    let given = given_line lines l w in
+    record {
+      known = λ unknown. absurd (is_whole (w ∙ ap (next_of false) same ∙ unknown));
+      is = λ s. given;
+      faults = λ s s' kept. kept;
+    }
+  where
+    is_whole : Whole l ≡ Unknown → ⊥
+    is_whole e = absurd (cc)

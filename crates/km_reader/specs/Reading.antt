@@ -1,5 +1,5 @@
 -- What one step of a reader gives.
-use Rattle.std.specs.Prelude.{◌≡◌, ℕ, ◌+◌, ◌-◌, ◌^◌, ◌<◌, ◌≤◌, true, false, List, [], ◌++◌, length, take, drop}
+use Rattle.std.specs.Prelude.{◌≡◌, ◌≢◌, ℕ, ◌+◌, ◌-◌, ◌^◌, ◌<◌, ◌≤◌, true, false, List, [], ◌++◌, length, take, drop}
 use Rattle.std.specs.Io.KnownBytes.{Consumes, IsAtEnd}
 use Rattle.km_edge.specs.Streams.{SourceState, Rose}
 use Rattle.km_edge.specs.Lines.{Whole, TooLong, Unknown, next_of}
@@ -65,3 +65,9 @@ FaultsAre s s' next.Long = s'.faults ≡ s.faults
 FaultsAre s s' next.End = s'.faults ≡ s.faults
 FaultsAre s s' next.Fault = Rose s.faults s'.faults
 FaultsAre s s' next.TooLong = s'.faults ≡ s.faults
+
+-- what was found among the bytes that are held, whatever the source has left
+pub record IsFound (held : List ℕ) (r : Input) (found : Next) : Type 0 where
+  pub known : next_of false held ≢ Unknown
+  pub is : (s : SourceState) → Is s r found
+  pub faults : (s s' : SourceState) → s'.faults ≡ s.faults → FaultsAre s s' found

@@ -42,11 +42,11 @@ impl Model for Reader {
 }
 
 impl Reader {
-    ghost use Rattle.std.specs.Prelude.{◌≡◌, ◌≢◌, ◌≤◌, ◌<◌, ◌+◌, ◌-◌, ◌^◌, false, length, min, MatchResult};
+    ghost use Rattle.std.specs.Prelude.{◌≡◌, ◌≢◌, ◌≤◌, ◌<◌, ◌+◌, ◌-◌, ◌^◌, false, length, min, MatchOption, MatchResult};
     ghost use Rattle.std.specs.Io.KnownBytes.{IsAtEnd};
     ghost use Rattle.km_edge.specs.Streams.{Rose, SourceState};
     ghost use Rattle.km_edge.specs.Lines.{Unknown, next_of};
-    ghost use Rattle.km_reader.specs.Reading.{FaultsAre, Is, IsReady, Step, Went, line_in, rest_in, unread};
+    ghost use Rattle.km_reader.specs.Reading.{FaultsAre, Is, IsFound, IsReady, Step, Went, line_in, rest_in, unread};
 
     /// Before the first line of an input of at most `limit` bytes.
     pub fn new(limit: u64) -> Reader
@@ -62,6 +62,7 @@ impl Reader {
     }
 
     /// The line that was given last, without its line feed.
+    #[inline]
     pub fn line(&self) -> &[u8]
         ensures { result.now ≡ line_in self.now }
     {
@@ -69,6 +70,7 @@ impl Reader {
     }
 
     /// Drops the line that was given last.
+    #[inline(always)]
     fn pass(&mut self)
         ensures same { self.new ≡ record { lines = rest_in self.old; skip = 0; taken = self.old.taken; limit = self.old.limit } }
         ensures ready { IsReady self.old.limit self.new }
@@ -122,7 +124,52 @@ impl Reader {
         }
     }
 
+    /// Gives what comes next, where the bytes that are held tell it.
+    #[inline(always)]
+    fn find(&mut self) -> Option<Next>
+        requires none { self.old.skip ≡ 0 }
+        ensures same { (self.new.lines ≡ self.old.lines) × (self.new.taken ≡ self.old.taken) }
+        ensures ready { IsReady self.old.limit self.new }
+        ensures found { MatchOption result ((next_of false self.old.lines ≡ Unknown) × (self.new ≡ self.old)) (IsFound self.old.lines self.new) }
+    {
+        match self.lines.cut(false) {
+            Cut::Line(line) => {
+                self.skip = line.len() + 1;
+                Some(Next::Line)
+            }
+            Cut::Long => Some(Next::Long),
+            Cut::More => None,
+        }
+    }
+
+    /// Reads until it can be told what comes next.
+    #[inline(never)]
+    fn read_on<S: Source>(&mut self, source: &mut S) -> Next
+        requires ready { IsReady self.old.limit self.old }
+        requires none { self.old.skip ≡ 0 }
+        requires more { next_of false self.old.lines ≡ Unknown }
+        ensures went { Went (S.state source.old) (S.state source.new) self.old.lines self.old.taken self.old.limit self.new.lines self.new.taken }
+        ensures ready { IsReady self.old.limit self.new }
+        ensures is { Is (S.state source.new) self.new result }
+        ensures faults { FaultsAre (S.state source.old) (S.state source.new) result }
+    {
+        loop {
+            if self.taken > self.limit {
+                return Next::TooLong;
+            }
+            match self.fill(source) {
+                Ok(0) => return self.rest(),
+                Ok(_) => {}
+                Err(_) => return Next::Fault,
+            }
+            if let Some(next) = self.find() {
+                return next;
+            }
+        }
+    }
+
     /// Takes what comes next. While a whole line is held, no byte is read.
+    #[inline]
     pub fn next<S: Source>(&mut self, source: &mut S) -> Next
         // What was taken is held then, but for the one byte over the limit, after which none is taken.
         ensures step { Step (S.state source.old) (S.state source.new) self.old self.new }
@@ -137,23 +184,9 @@ impl Reader {
         ensures idle { next_of false (rest_in self.old) ≢ Unknown → source.new ≡ source.old }
     {
         self.pass();
-        loop {
-            match self.lines.cut(false) {
-                Cut::Line(line) => {
-                    self.skip = line.len() + 1;
-                    return Next::Line;
-                }
-                Cut::Long => return Next::Long,
-                Cut::More => {}
-            }
-            if self.taken > self.limit {
-                return Next::TooLong;
-            }
-            match self.fill(source) {
-                Ok(0) => return self.rest(),
-                Ok(_) => {}
-                Err(_) => return Next::Fault,
-            }
+        match self.find() {
+            Some(next) => next,
+            None => self.read_on(source),
         }
     }
 }
