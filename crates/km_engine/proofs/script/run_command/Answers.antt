@@ -1,4 +1,4 @@
-use Rattle.std.proofs.Common.{Some, refl, subst}
+use Rattle.std.proofs.Common.{refl, subst}
 use Rattle.km_engine.specs.Session.{HasLed}
 use Rattle.km_engine.proofs.Lines.{memory_runs, later_runs, later_ends}
 use Rattle.km_engine.proofs.script.run_command.Goals as goal
