@@ -126,11 +126,11 @@ module _ (words : ℕ) (h : History) (j k : ℕ) (ids : List ℕ) (size : IsMemo
 
 -- the laws over a told memory
 pub forgotten_are_new_once : ForgottenAreNewOnce
-forgotten_are_new_once words h later j k ids size follows lt done last set id b m found old =
+forgotten_are_new_once words h later size follows j k ids lt done last set id b m found old =
     (forgotten words h j k ids (value words h j k ids size follows set) (memory_answered words h follows) lt done last (are_forgotten words h j k ids size follows set) id b m found old).1 later
 
 pub forgotten_are_listed : ForgottenAreListed
-forgotten_are_listed words h j k ids size follows lt done last set id c m found can old =
+forgotten_are_listed words h size follows j k ids lt done last set id c m found can old =
     let b = set id m in
     let now = find_in (λ (x : Block). x.id == id) (world (past_of h)).blocks c found in
     let at = find_in (λ (x : Block). x.id == id) (world (end_of k (past_of h))).blocks b.0 b.1 in

@@ -69,13 +69,16 @@ UnreferencedAreListed =
     → ((later : History) → times_new (past_of (later ++ h)) id ≡ 1)
     × ((c : Block) → block_of (world (past_of h)).blocks id ≡ Some c → can_be_reported c ≡ true → is_among id (listing_ids (past_of h)) ≡ true)
 
--- over a told memory, a set that is forgotten through two completed scans as `ForgottenAreListed` says: each member that is old enough
--- at the second was new once, also where it was freed or painted since, or a later scan was completed
-abbrev pub ForgottenAreNewOnce : Type 0
-ForgottenAreNewOnce =
-    (words : ℕ) (h later : History) (j k : ℕ) (ids : List ℕ) → IsMemorySize words → FollowsMemory words h
-    → j < k → was_completed j (past_of h) ≡ true → last_completed (past_of h) ≡ Some k
+-- a set that is forgotten through two completed scans as `ForgottenAreListedAt` says: each member that is old enough
+-- at the second was new once, also where it was freed or painted in what came later, or a later scan was completed
+abbrev pub ForgottenAreNewOnceAt : ℕ → History → History → Type 0
+ForgottenAreNewOnceAt words later h =
+    (j k : ℕ) (ids : List ℕ) → j < k → was_completed j (past_of h) ≡ true → last_completed (past_of h) ≡ Some k
     → ((id : ℕ) → is_among id ids ≡ true → (b : Block) × (block_of (world (end_of k (past_of h))).blocks id ≡ Some b) × IsForgotten words (past_of h) j k ids b)
     → (id : ℕ) (b : Block) → is_among id ids ≡ true → block_of (world (end_of k (past_of h))).blocks id ≡ Some b
     → b.born + 1000 ≤ (world (at_begin (end_of k (past_of h)))).now
     → times_new (past_of (later ++ h)) id ≡ 1
+
+-- so it is over a told memory
+abbrev pub ForgottenAreNewOnce : Type 0
+ForgottenAreNewOnce = (words : ℕ) (h later : History) → IsMemorySize words → FollowsMemory words h → ForgottenAreNewOnceAt words later h

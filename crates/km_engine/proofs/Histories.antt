@@ -1,7 +1,5 @@
 -- The histories that lines lead to.
 use Rattle.std.proofs.Common.{◌≡◌, ℕ, ◌+◌, List, [], ◌∷◌, ◌++◌, Ok, Err, refl, sym, subst}
-use Rattle.km_converse.proofs.ToldLaw.{forgotten_are_listed}
-use Rattle.km_laws.proofs.NotHeld.{listed_are_not_held}
 use Rattle.km_base.specs.declared.lines.Command.{Command}
 use Rattle.km_base.specs.declared.lines.Command.TheVariants.{Memory}
 use Rattle.km_base.specs.declared.lines.Line.{Line}
@@ -12,8 +10,6 @@ use Rattle.km_model.specs.Grammar.{line_of}
 use Rattle.km_model.specs.Headline.{IsMemorySize}
 use Rattle.km_model.specs.Output.{Script, Fresh, Begun, Leads, LeadsLine, LineThen, Prints, is_fresh}
 use Rattle.km_model.proofs.FollowLaws.{makes_own, makes_words}
-use Rattle.km_model.proofs.VerdictLaws.{listed_are_live, new_at_most_once}
-use Rattle.km_engine.specs.Headline.{Headline}
 use Rattle.km_engine.specs.Steps.{IsFit, IsFitLine}
 use Rattle.km_engine.proofs.Fit.{read_is_fit}
 
@@ -32,7 +28,7 @@ pub line_sound : (m : Script) (l : Line) (next : Script) (text : List ℕ) → I
 line_sound m line.Blank next text fit p sound = subst IsSound (sym p.0) sound
 line_sound m (line.Command c) next text fit p sound = leads_sound m c next text fit p sound
 
-prints_sound : (ls : List (List ℕ)) (m : Script) (n : ℕ) (end : Script) (out : List ℕ) → Prints m n ls end out → IsSound m → IsSound end
+pub prints_sound : (ls : List (List ℕ)) (m : Script) (n : ℕ) (end : Script) (out : List ℕ) → Prints m n ls end out → IsSound m → IsSound end
 prints_sound [] m n end out p sound = subst IsSound (sym p.0) sound
 prints_sound (l ∷ ls) m n end out p sound =
     elim (line_of (is_fresh m) l) as (λ r. line_of (is_fresh m) l ≡ r → LineThen r m n (λ between e o. Prints between (n + 1) ls e o) end out → IsSound end) [
@@ -41,18 +37,6 @@ prints_sound (l ∷ ls) m n end out p sound =
     ] refl p
 
 -- what follows a memory followed it at each moment
-followed : (words : ℕ) (later before : History) → FollowsMemory words (later ++ before) → FollowsMemory words before
+pub followed : (words : ℕ) (later before : History) → FollowsMemory words (later ++ before) → FollowsMemory words before
 followed words [] before f = f
 followed words (e ∷ later) before f = followed words later before f.1
-
-pub headline : (lines : List (List ℕ)) → Headline lines
-headline lines = record {
-  own_words = λ run out p. (prints_sound lines Fresh 1 (Begun run) out p tt).1;
-  applies = λ run later before out p parts.
-      let sound = prints_sound lines Fresh 1 (Begun run) out p tt in
-      (sound.0, followed run.words later before (subst (FollowsMemory run.words) parts sound.1.follows));
-  listed_are_not_held = listed_are_not_held;
-  forgotten_are_listed = forgotten_are_listed;
-  listed_are_live = listed_are_live;
-  new_at_most_once = new_at_most_once;
-}

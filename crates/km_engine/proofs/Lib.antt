@@ -10,3 +10,5 @@ pub mod Runs
 pub mod Feeds
 pub mod Summaries
 pub mod ListedBlocks
+pub mod Shown
+pub mod Answered

@@ -37,7 +37,7 @@ leads_begun Fresh _ next text p = absurd p
 leads_begun (Begun run) c next text p = ap is_fresh p.2
 
 -- a status after a line that was run
-status_on : (m : Script) (n : ℕ) (l : Line) (next : Script) (text : List ℕ) (rest : Bool → Status) → LeadsLine m l next text
+pub status_on : (m : Script) (n : ℕ) (l : Line) (next : Script) (text : List ℕ) (rest : Bool → Status) → LeadsLine m l next text
     → status_then (is_fresh m) n (Ok l) rest ≡ rest (is_fresh next)
 status_on m n line.Blank next text rest p = ap (λ s. rest (is_fresh s)) (sym p.0)
 status_on m n (line.Command c) next text rest p = ap rest (sym (leads_begun m c next text p))

@@ -4,13 +4,12 @@ use Rattle.std.specs.List.{count_by}
 use Rattle.km_edge.specs.Lines.{is_line_feed}
 use Rattle.km_edge.specs.Memory.{count_state}
 use Rattle.km_edge.specs.Streams.{SourceState, SinkState, Counts, Rose, greatest}
-use Rattle.km_forms.specs.declared.words.Form.TheVariants.{Bench}
 use Rattle.km_gen.specs.Generated.{generated_script}
 use Rattle.km_base.specs.declared.status.Status.{Status}
 use Rattle.km_base.specs.declared.status.Status.TheVariants as status
 use Rattle.km_model.specs.Output.{Script, IsRun, limit}
 use Rattle.km_machine.specs.Machines.{Simulation}
-use Rattle.km_engine.specs.Bench.{BenchEnds, SumsUp, held_state, listed_at}
+use Rattle.km_engine.specs.Bench.{SumsUp, held_state, listed_at}
 use Rattle.km_reader.specs.Causes.{Ends}
 use Rattle.km_engine.specs.Outcome.{scripts}
 use Rattle.km_engine.specs.Session.{HasLed}
@@ -54,14 +53,3 @@ sums_up number steps feeds listed before after count script rest machine ended r
       bytes = counted_is before after count (length run.written) run.came_out.counted none told;
       listed = lists leads.0 leads.2;
     }
-
--- words of the form are not bad ones
-pub bench_never_bad : (number steps : ℕ) (k k' : SinkState) (ended : Status) (n : ℕ) → BenchEnds number steps k k' ended → ended ≡ status.BadWords n → ⊥
-bench_never_bad number steps k k' ended n ends bad = subst (λ x. BenchEnds number steps k k' x) bad ends
-
--- the number and the steps are those of the words
-pub bench_of : (a b number steps : ℕ) (k k' : SinkState) (ended : Status) → Bench a b ≡ Bench number steps → BenchEnds a b k k' ended → BenchEnds number steps k k' ended
-bench_of a b number steps k k' ended same ends =
-    let n : a ≡ number = cc in
-    let s : b ≡ steps = cc in
-    subst (λ x. BenchEnds x steps k k' ended) n (subst (λ y. BenchEnds a y k k' ended) s ends)

@@ -3,3 +3,4 @@ pub mod Headline
 pub mod Outcome
 pub mod Steps
 pub mod Bench
+pub mod Program

@@ -216,4 +216,4 @@ pub held_through_the_scan : HeldThroughTheScan
 held_through_the_scan words h after id size follows done scan held =
     let all = whole words h after follows done scan in
     let through : IsHeld (standing_in words (past_of after.history) (scans (past_of h) + 1)) id = subst (λ s. IsHeld s id) (sym all.through) held in
-    (through, λ listed. listed_are_not_held words after.history (scans (past_of h) + 1) id size all.follows all.last listed through)
+    (through, λ listed. listed_are_not_held words after.history size all.follows (scans (past_of h) + 1) id all.last listed through)

@@ -185,7 +185,7 @@ listed_not_held_by_loads words h values k id follows last found listed held =
     there.found there.white (subst (λ p. IsHeld (standing_with values (since_begin p)) id) same held)
 
 pub listed_are_not_held : ListedAreNotHeld
-listed_are_not_held words h k id size follows last listed held =
+listed_are_not_held words h size follows k id last listed held =
     let was = completed_at words (FollowsMemory words) (λ x g f. f.1) (memory_answered words) h k follows last in
     let there = listed_white (FollowsMemory words) h k id was listed in
     let same : end_of k (past_of h) ≡ end_of (scans (past_of was.before)) (past_of (was.event ∷ was.before)) =
