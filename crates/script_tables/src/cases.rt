@@ -93,7 +93,8 @@ fn first_report(case: &Case<'_>) -> Result<Option<Vec<u8>>, Trouble> {
         return Ok(None);
     }
     if !run.written.bytes().starts_with(case.report) {
-        return Err(Trouble::Malformed("the report begins otherwise"));
+        let text = String::from_str(case.alloc, "the report begins otherwise")?;
+        return Err(Trouble::Differs(text));
     }
     Ok(Some(Vec::from_slice(case.alloc, run.written.bytes())?))
 }

@@ -1,7 +1,8 @@
 //! Runs the scripts of the tables that its words name, and writes for each group of rows how many are as expected.
 //!
 //! A row that isn't writes a line of its own, with its name and what differs, and the program then ends with 1.
-//! After the word `refused` a run may also end with no memory, with nothing written.
+//! After the word `refused` a run may also end with no memory, with nothing written. After the word `wrong` it is the
+//! other way round: no row is to be as it says, and the program ends with 1 where one is.
 #![tactic(auto)]
 
 mod cases;
@@ -16,18 +17,20 @@ mod troubles;
 
 use std::process::ExitCode;
 use std::{env, fs};
-use tables::run_table;
+use tables::{Expected, run_table};
 use troubles::Trouble;
 
 fn main(rt: HostRuntime) -> Result<ExitCode, Trouble> {
-    let mut may_refuse = false;
+    let mut expected = Expected::Good;
     let mut all_good = true;
     for word in env::args(&rt)?.skip(1) {
-        if word.as_str() == "refused" {
-            may_refuse = true;
-        } else {
-            let text = fs::read_to_string(&rt, word.as_str())?;
-            all_good &= run_table(&rt, text.as_str(), may_refuse)?;
+        match word.as_str() {
+            "refused" => expected = Expected::MayRefuse,
+            "wrong" => expected = Expected::Wrong,
+            table => {
+                let text = fs::read_to_string(&rt, table)?;
+                all_good &= run_table(&rt, text.as_str(), expected)?;
+            }
         }
     }
     Ok(ExitCode::from(u8::from(!all_good)))
