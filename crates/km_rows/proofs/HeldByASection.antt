@@ -1,11 +1,18 @@
-use Rattle.std.proofs.Common.{codes, refl}
+use Rattle.std.proofs.Common.{ℕ, List, [], ◌∷◌, codes, refl}
 use Rattle.std.specs.Fmt.{digits}
-use Rattle.km_model.specs.Output.{IsOut}
 use Rattle.km_model.specs.Answers.{answer}
-use Rattle.km_model.specs.Scan.{next}
-use Rattle.km_model.specs.Grammar.{line_by}
 use Rattle.km_model.specs.Changes.{world_after_act}
+use Rattle.km_model.specs.Grammar.{line_by}
+use Rattle.km_model.specs.Output.{IsOut}
+use Rattle.km_model.specs.Scan.{next}
+use Rattle.km_rows.proofs.Played.{is_out}
 
-held_by_a_section : IsOut (codes "memory 4096\nsection data 8\nkmalloc 64\nstore data 0xffff888000002000\nwrite scan\nread\n") (codes "kmalloc 0xffff888000002000\n")
+abbrev script : List ℕ
+script = codes "memory 4096\nsection data 8\nkmalloc 64\nstore data 0xffff888000002000\nwrite scan\nread\n"
+
+abbrev report : List ℕ
+report = codes "kmalloc 0xffff888000002000\n"
+
+held_by_a_section : IsOut script report
 unfolding digits answer next line_by world_after_act
-held_by_a_section = (_, (_, _, _, (refl, refl), (_, _, _, (_, refl, refl, refl), (_, _, _, (_, refl, refl, refl), (_, _, _, (_, refl, refl, refl), (_, _, _, (_, (528, refl, refl), refl, refl), (_, _, _, (_, refl, refl, refl), (refl, refl), refl), refl), refl), refl), refl), refl))
+held_by_a_section = is_out script report (528 ∷ []) refl

@@ -1,11 +1,18 @@
-use Rattle.std.proofs.Common.{codes, refl}
+use Rattle.std.proofs.Common.{ℕ, List, [], codes, refl}
 use Rattle.std.specs.Fmt.{digits}
-use Rattle.km_model.specs.Output.{IsOut}
 use Rattle.km_model.specs.Answers.{answer}
-use Rattle.km_model.specs.Scan.{next}
-use Rattle.km_model.specs.Grammar.{line_by}
 use Rattle.km_model.specs.Changes.{world_after_act}
+use Rattle.km_model.specs.Grammar.{line_by}
+use Rattle.km_model.specs.Output.{IsOut}
+use Rattle.km_model.specs.Scan.{next}
+use Rattle.km_rows.proofs.Played.{is_out}
 
-placement_of_a_run : IsOut (codes "memory 8192\nkmalloc 32768\n") (codes "kmalloc 0xffff888000001000\n")
+abbrev script : List ℕ
+script = codes "memory 8192\nkmalloc 32768\n"
+
+abbrev report : List ℕ
+report = codes "kmalloc 0xffff888000001000\n"
+
+placement_of_a_run : IsOut script report
 unfolding digits answer next line_by world_after_act
-placement_of_a_run = (_, (_, _, _, (refl, refl), (_, _, _, (_, refl, refl, refl), (refl, refl), refl), refl))
+placement_of_a_run = is_out script report [] refl

@@ -1,11 +1,18 @@
-use Rattle.std.proofs.Common.{codes, refl}
+use Rattle.std.proofs.Common.{ℕ, List, [], codes, refl}
 use Rattle.std.specs.Fmt.{digits}
-use Rattle.km_model.specs.Output.{IsOut}
 use Rattle.km_model.specs.Answers.{answer}
-use Rattle.km_model.specs.Scan.{next}
-use Rattle.km_model.specs.Grammar.{line_by}
 use Rattle.km_model.specs.Changes.{world_after_act}
+use Rattle.km_model.specs.Grammar.{line_by}
+use Rattle.km_model.specs.Output.{IsOut}
+use Rattle.km_model.specs.Scan.{next}
+use Rattle.km_rows.proofs.Played.{is_out}
 
-too_large_a_memory : IsOut (codes "memory 4194816\n") (codes "not a command: line 1, column 8\n")
+abbrev script : List ℕ
+script = codes "memory 4194816\n"
+
+abbrev report : List ℕ
+report = codes "not a command: line 1, column 8\n"
+
+too_large_a_memory : IsOut script report
 unfolding digits answer next line_by world_after_act
-too_large_a_memory = (_, (refl, refl))
+too_large_a_memory = is_out script report [] refl
