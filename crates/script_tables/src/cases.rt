@@ -2,6 +2,7 @@
 //! each room of the sink.
 
 use crate::checks::{Case, try_run};
+use crate::layers::try_layer;
 use crate::notation::number_of;
 use crate::reports::report_of;
 use crate::rows::{Numbers, Row};
@@ -113,8 +114,8 @@ fn try_case(case: &Case<'_>) -> Result<u64, Trouble> {
     }
 }
 
-/// Tries a row, and gives the number of its runs.
-pub fn try_row(alloc: Global, row: &Row<'_>, may_refuse: bool) -> Result<u64, Trouble> {
+/// Tries a row of a script, and gives the number of its runs.
+fn try_script(alloc: Global, row: &Row<'_>, may_refuse: bool) -> Result<u64, Trouble> {
     let words = words_of(alloc, row.words)?;
     let report = report_of(alloc, row.report)?;
     let mut runs = 0u64;
@@ -131,4 +132,13 @@ pub fn try_row(alloc: Global, row: &Row<'_>, may_refuse: bool) -> Result<u64, Tr
         runs = runs.saturating_add(try_case(&case)?);
     }
     Ok(runs)
+}
+
+/// Tries a row, and gives the number of its runs or calls.
+pub fn try_row(alloc: Global, row: &Row<'_>, may_refuse: bool) -> Result<u64, Trouble> {
+    if row.layer.is_empty() {
+        try_script(alloc, row, may_refuse)
+    } else {
+        try_layer(alloc, row.layer, row.calls)
+    }
 }

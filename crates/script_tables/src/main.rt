@@ -1,4 +1,5 @@
-//! Runs the scripts of the tables that its words name, and writes for each group of rows how many are as expected.
+//! Runs the scripts and makes the calls of the tables that its words name, and writes for each group of rows how many
+//! are as expected.
 //!
 //! A row that isn't writes a line of its own, with its name and what differs, and the program then ends with 1.
 //! After the word `refused` a run may also end with no memory, with nothing written. After the word `wrong` it is the
@@ -7,6 +8,7 @@
 
 mod cases;
 mod checks;
+mod layers;
 mod notation;
 mod reports;
 mod rows;

@@ -82,6 +82,9 @@ pub struct Row<'a> {
     /// Whether the report only begins so. Each run then writes what the first one did.
     pub only_begins: bool,
     pub status: &'a str,
+    /// The layer that is called in place of a script, and the calls with what they give.
+    pub layer: &'a str,
+    pub calls: &'a str,
 }
 
 impl<'a> Row<'a> {
@@ -100,6 +103,8 @@ impl<'a> Row<'a> {
             report: "",
             only_begins: false,
             status: "ok",
+            layer: "",
+            calls: "",
         }
     }
 
@@ -122,6 +127,8 @@ impl<'a> Row<'a> {
                 self.only_begins = true;
             }
             "status" => self.status = value,
+            "layer" => self.layer = value,
+            "calls" => self.calls = value,
             _ => return Err(Trouble::Malformed("a field of no such name")),
         }
         Ok(())

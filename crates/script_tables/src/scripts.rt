@@ -20,17 +20,23 @@ fn put_byte(piece: &str, script: &mut Vec<u8>) -> Result<(), Trouble> {
     Ok(())
 }
 
+/// Appends a text with the bytes that it writes as digits.
+pub fn put_bytes(text: &str, script: &mut Vec<u8>) -> Result<(), Trouble> {
+    let mut pieces = text.split("\\x");
+    script.extend_from_slice(pieces.next().unwrap_or("").as_bytes())?;
+    for piece in pieces {
+        put_byte(piece, script)?;
+    }
+    Ok(())
+}
+
 /// Appends a line, with its line feed unless a `\` ends it.
 fn put_line(line: &str, script: &mut Vec<u8>) -> Result<(), Trouble> {
     let (line, end) = match line.strip_suffix("\\") {
         Some(line) => (line, ""),
         None => (line, "\n"),
     };
-    let mut pieces = line.split("\\x");
-    script.extend_from_slice(pieces.next().unwrap_or("").as_bytes())?;
-    for piece in pieces {
-        put_byte(piece, script)?;
-    }
+    put_bytes(line, script)?;
     script.extend_from_slice(end.as_bytes())?;
     Ok(())
 }

@@ -1,5 +1,6 @@
 //! Why a row isn't as expected, or couldn't be tried.
 
+use km_base::NoMemory;
 use std::alloc::AllocError;
 use std::io;
 use thiserror::Error;
@@ -16,4 +17,10 @@ pub enum Trouble {
     Memory(#[from(alloc)] AllocError),
     #[error(transparent)]
     Stream(#[from] io::Error),
+}
+
+impl From<NoMemory> for Trouble {
+    fn from(_: NoMemory) -> Trouble {
+        Trouble::Memory(AllocError)
+    }
 }
