@@ -6,7 +6,7 @@ use Rattle.km_core.specs.Cores.{Seen, Stands}
 use Rattle.km_model.specs.History.{History}
 use Rattle.km_state.specs.State.{State}
 use Rattle.km_rounds.specs.declared.entry.Entry.{Entry}
-use Rattle.km_rounds.specs.Journals.{ticks_in, with_journal, FollowsOn}
+use Rattle.km_rounds.specs.Journals.{ticks_in, with_journal, FollowsOn, room_for}
 
 -- a core with its journal. The opening state is what the core was without it, which contracts alone see
 pub record Book : Type 0 where
@@ -28,11 +28,6 @@ pub record IsBook (b : Book) : Type 0 where
   pub words : b.core.parts.words ≡ b.opening.parts.words
   pub events : b.core.events ≡ b.opening.events + length b.journal
   pub now : b.core.parts.settings.now ≡ b.opening.parts.settings.now + ticks_in b.journal
-
--- how many entries may stand before an act
-abbrev pub room_for : ℕ → Act → ℕ
-room_for n Halt = n + 1
-room_for n _ = n
 
 -- the journal has no room for an act
 abbrev pub IsFullFor : Book → Act → Type 0

@@ -16,15 +16,14 @@ use Rattle.km_state.specs.State.{State}
 use Rattle.km_state.specs.StateAfter.{state_after}
 use Rattle.km_words.specs.Told.{Told, WordStep, LoadStep, with_step}
 use Rattle.km_rounds.specs.declared.entry.Entry.{Entry}
-use Rattle.km_rounds.specs.Journals.{entries_by, entry, ticks_in, with_journal}
+use Rattle.km_rounds.specs.Journals.{entries_by, entry, room_for, ticks_in, with_journal}
 use Rattle.km_numbered.specs.Members.{AllBy}
 use Rattle.km_laws.proofs.Answered.{blocks_lie, only_loads_load}
 use Rattle.km_live_words.specs.Hands.{HandOn, told_of}
-use Rattle.km_live_map.specs.Books as books
 use Rattle.km_live_map.specs.Books.{Book, IsBook, IsCoreFor, IsFullFor}
 use Rattle.km_live_map.specs.Ticks.{OnlyFirstTicks}
 use Rattle.km_live_map.specs.Views.{Knows, View, after_give, after_take}
-use Rattle.km_workers.specs.Workers.{Acted, IsFit, May, Stepped, is_store, loads_of, room_for, with_steps}
+use Rattle.km_workers.specs.Workers.{Acted, IsFit, May, Stepped, is_store, loads_of, with_steps}
 use Rattle.km_live_workers.specs.AtBooks.{Answered, IsBegun, IsBegunAs, IsOpening, acting_of, limit_of, moment_of, words_of}
 use Rattle.km_live_workers.proofs.Parts.{drop_first, part_length, ticks_first}
 
@@ -97,11 +96,6 @@ pub goes_back : (v : View) (b c : Book) (what : Act) (s t : HandOn) (result : Op
 goes_back v b c what s t None size may a = ([], a.made.0 ∙ sym (append-nil b.journal), tt, tt)
 goes_back v b c what s t (Some given) size may a = (entry v.member.number what given ∷ [], a.made.0, (refl, tt), ((λ n is. (may.ticks n is).0), tt))
 
--- how many entries may stand before an act
-rooms_same : (n : ℕ) (what : Act) → books.room_for n what ≡ room_for n what
-rooms_same n act.Halt = refl
-rooms_same n _ = refl
-
 limit_is : (v : View) (b : Book) → Knows v b → limit_of v.about ≡ b.entries
 limit_is v b k = ap limit_of k.about
 
@@ -126,9 +120,9 @@ acted v b c what s t None k a =
       made = (same, full limit a.made.1 long);
     }
   where
-    full : limit_of v.about ≡ b.entries → books.room_for b.entries what ≤ length b.journal → length c.journal ≡ length b.journal → room_for (limit_of v.about) what ≤ length c.journal
+    full : limit_of v.about ≡ b.entries → room_for b.entries what ≤ length b.journal → length c.journal ≡ length b.journal → room_for (limit_of v.about) what ≤ length c.journal
     full limit high long =
-        let high' : room_for (limit_of v.about) what ≤ length b.journal = subst (λ n. room_for n what ≤ length b.journal) (sym limit) (subst (λ n. n ≤ length b.journal) (rooms_same b.entries what) high) in
+        let high' : room_for (limit_of v.about) what ≤ length b.journal = subst (λ n. room_for n what ≤ length b.journal) (sym limit) high in
         omega (arith, high', long)
 acted v b c what s t (Some given) k a =
     let left : drop (length b.journal) c.journal ≡ entry v.member.number what given ∷ [] =
@@ -146,9 +140,8 @@ acted v b c what s t (Some given) k a =
       made = (own, free limit a.made.1, a.made.2);
     }
   where
-    free : limit_of v.about ≡ b.entries → (books.room_for b.entries what ≤ length b.journal → ⊥) → v.most < room_for (limit_of v.about) what
+    free : limit_of v.about ≡ b.entries → (room_for b.entries what ≤ length b.journal → ⊥) → v.most < room_for (limit_of v.about) what
     free limit none =
-        let none' : room_for (limit_of v.about) what ≤ length b.journal → ⊥ =
-        λ high. none (subst (λ n. n ≤ length b.journal) (sym (rooms_same b.entries what)) (subst (λ n. room_for n what ≤ length b.journal) limit high)) in
+        let none' : room_for (limit_of v.about) what ≤ length b.journal → ⊥ = λ high. none (subst (λ n. room_for n what ≤ length b.journal) limit high) in
         let most = k.most in
         omega (arith, most, none')

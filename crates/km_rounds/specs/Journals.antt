@@ -1,6 +1,7 @@
 -- The acts of several workers on one core.
-use Rattle.std.specs.Prelude.{ℕ, List, [], ◌∷◌, sum_by}
+use Rattle.std.specs.Prelude.{ℕ, ◌+◌, List, [], ◌∷◌, sum_by}
 use Rattle.km_base.specs.declared.acts.Act.{Act}
+use Rattle.km_base.specs.declared.acts.Act.TheVariants.{Halt}
 use Rattle.km_base.specs.declared.acts.Answer.{Answer}
 use Rattle.km_base.specs.declared.acts.Answer.TheVariants.{Loaded}
 use Rattle.km_model.specs.History.{Event, History, ticks_of}
@@ -16,6 +17,11 @@ Journal = List Entry
 -- the entry of a worker's act
 abbrev pub entry : ℕ → Act → Answer → Entry
 entry k act given = record { by = k; act = act; answer = given }
+
+-- how many entries may stand before an act, in a journal with room for so many: a halt has a place of its own
+abbrev pub room_for : ℕ → Act → ℕ
+room_for limit Halt = limit + 1
+room_for limit _ = limit
 
 -- the event of an entry
 abbrev pub event_of : Entry → Event

@@ -11,9 +11,9 @@ use Rattle.km_model.proofs.Cases.{elim_false, none_some, some_same}
 use Rattle.km_words.specs.Told.{Told, WordStep}
 use Rattle.km_live_model.specs.declared.jobs.JobLine.{JobLine}
 use Rattle.km_live_model.specs.declared.jobs.JobLine.TheVariants.{Kmalloc, Kzalloc, Kfree, NotLeak, Ignore, NoScan, ScanArea}
-use Rattle.km_rounds.specs.Journals.{Journal, with_loaded}
+use Rattle.km_rounds.specs.Journals.{Journal, with_loaded, room_for}
 use Rattle.km_live_model.specs.Courses.{Mutator, Makes, Course, act_in, entry_of, leaves_out, made_at, registers_after, steps_in}
-use Rattle.km_workers.specs.Workers.{Acting, Acted, Asked, Followed, IsCourse, IsFull, IsZeroable, LineMade, Stepped, loads_of, room_for, standing, with_steps}
+use Rattle.km_workers.specs.Workers.{Acting, Acted, Asked, Followed, IsCourse, IsFull, IsZeroable, LineMade, Stepped, loads_of, standing, with_steps}
 use Rattle.km_workers.proofs.Blocks.{steps_more}
 
 -- the act of a line can't load, and is no halt

@@ -13,7 +13,7 @@ use Rattle.km_live_model.specs.declared.jobs.JobLine.{JobLine}
 use Rattle.km_live_model.specs.declared.jobs.JobLine.TheVariants.{Kzalloc}
 use Rattle.km_workers.specs.declared.scanner.Turn.{Turn}
 use Rattle.km_workers.specs.declared.scanner.Turn.TheVariants as turn
-use Rattle.km_rounds.specs.Journals.{Journal, loads_in, ticks_in, with_loaded}
+use Rattle.km_rounds.specs.Journals.{Journal, loads_in, room_for, ticks_in, with_loaded}
 use Rattle.km_live_model.specs.Courses.{Mutator, Stage, AtTick, AtStep, Makes, Course, act_in, ends_at, entry_of, is_next_act, is_scanner_course, leaves_out, stage_after, made_at, registers_after, step_at, steps_in, with_value}
 
 -- what a worker knows: its number, how many entries the journal may have beside a halt, the number of words of the core
@@ -25,11 +25,6 @@ pub record Acting : Type 0 where
   pub moment : ℕ
   pub own : Journal
   pub most : ℕ
-
--- how many entries may stand before an act; a halt has a place of its own
-abbrev pub room_for : ℕ → Act → ℕ
-room_for limit act.Halt = limit + 1
-room_for limit _ = limit
 
 -- whether an act stores a word. A worker stores by its hand alone
 abbrev pub is_store : Act → Bool
