@@ -1,13 +1,7 @@
 //! A core with the journal of its acts.
 
-ghost use Rattle.std.specs.Prelude.{◌≡◌, ℕ, ◌+◌, ◌<◌, ◌≤◌, ◌^◌, ◌∷◌, [], ◌++◌, IfOk, MatchResult};
+ghost use Rattle.std.specs.Prelude.{◌≡◌, ℕ, ◌+◌, ◌<◌, ◌≤◌, ◌^◌, [], IfErr, IfOk};
 ghost use Rattle.km_base.specs.declared.acts.Act.TheVariants.{Tick};
-ghost use Rattle.km_core.specs.Cores.{Stands};
-ghost use Rattle.km_core.specs.Parts.{Touches};
-ghost use Rattle.km_model.specs.History.{History, ticks_of};
-ghost use Rattle.km_state.specs.State.{State};
-ghost use Rattle.km_state.specs.StateAfter.{state_after};
-ghost use Rattle.km_rounds.specs.Journals.{entry};
 
 use km_base::{Act, Answer, NoMemory};
 use km_core::Core;
@@ -52,7 +46,7 @@ fn copied(act: &Act) -> Act
 }
 
 impl Booked {
-    ghost use Rattle.km_live_map.specs.Books.{IsBook, IsFullFor};
+    ghost use Rattle.km_live_map.specs.Books.{IsBook, Made, NotMade};
 
     /// A core with an empty journal that has room for so many entries, and one more for a last halt.
     pub fn new(alloc: Global, core: Core<TreeMap>, entries: u64) -> Result<Booked, NoMemory>
@@ -109,12 +103,8 @@ impl Booked {
         requires size { (W.told words.old).size ≡ self.old.core.parts.words }
         requires few { self.old.core.events < 2 ^ 62 }
         requires small { (n : ℕ) → act ≡ Tick n → self.old.core.parts.settings.now + n ≤ 2 ^ 62 }
-        ensures made { IfOk result (λ a. (self.new.journal ≡ self.old.journal ++ entry by act a ∷ []) × ¬ IsFullFor self.old act) }
-        ensures full { MatchResult result (λ _. Unit {0}) (λ f. (f.0 ≡ self.old.entries) × (self.new ≡ self.old) × IsFullFor self.old act) }
-        ensures same { (self.new.opening ≡ self.old.opening) × (self.new.entries ≡ self.old.entries) }
-        ensures stands { IfOk result (λ a. (h : History) (s : State) → Stands self.old.core h s → Stands self.new.core (record { act = act; answer = a } ∷ h) (state_after s act a)) }
-        ensures counts { IfOk result (λ a. (self.new.core.parts.words ≡ self.old.core.parts.words) × (self.new.core.events ≡ self.old.core.events + 1) × (self.new.core.parts.settings.now ≡ self.old.core.parts.settings.now + ticks_of act)) }
-        ensures words { MatchResult result (λ a. Touches act a (W.told words.old) (W.told words.new)) (λ _. W.told words.new ≡ W.told words.old) }
+        ensures made { IfOk result (λ a. Made self.old self.new by act a (W.told words.old) (W.told words.new)) }
+        ensures full { IfErr result (λ f. NotMade self.old self.new act f.0 (W.told words.old) (W.told words.new)) }
     {
         let room = match act {
             Act::Halt => self.entries + 1,
