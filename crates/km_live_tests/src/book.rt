@@ -1,11 +1,11 @@
 //! Books whose journals get full, and one that is handed on.
 
-ghost use Rattle.std.specs.Prelude.{◌≡◌, ◌≤◌, [], IfOk, length};
+ghost use Rattle.std.specs.Prelude.{◌≡◌, ◌≤◌, [], IfOk, false, length};
 
 use crate::workers::give_back;
 use km_base::{Act, Answer, NoMemory, Refusal};
 use km_core::Core;
-use km_live_map::{Baton, Booked, JournalFull};
+use km_live_map::{Baton, Booked, JournalFull, Token};
 use km_tree::TreeMap;
 use km_words::{Plain, Words};
 use std::alloc::Global;
@@ -99,4 +99,67 @@ fn handed_on<R: Wait + Abort>(rt: &R, alloc: Global) -> Result<(), NoMemory> {
 fn a_book_is_away_while_a_token_holds_it(rt: HostRuntime) {
     let alloc: Global = rt.alloc();
     assert!(rt; handed_on(&rt, alloc).is_ok(), "memory");
+}
+
+/// Takes the book, makes an act, and gives the book back. Tells how many entries there are then.
+fn add_entry<R: Wait + Abort>(
+    rt: &R,
+    baton: &Baton,
+    token: &mut Token,
+    by: u32,
+    words: &mut Plain,
+) -> usize
+    requires { (token.old.baton ≡ baton.now) × (token.old.view.holding ≡ false) × (token.old.view.member.number ≡ by) }
+    ensures token { (token.new.baton ≡ token.old.baton) × (token.new.view.holding ≡ false) × (token.new.view.member.number ≡ by) }
+    ensures most { token.new.view.most ≡ result }
+{
+    let mut book = baton.take(rt, token);
+    let core = book.core();
+    assert!(rt; core.events() < MOST && words.words() == core.words());
+    let Ok(answer) = book.act(by, words, Act::Kfree(0)) else {
+        panic!(rt; "no room for an entry of {by}")
+    };
+    assert!(rt; answer == Answer::Refused(Refusal::NotAllocated));
+    let length = book.journal().len();
+    baton.give(rt, token, book);
+    length
+}
+
+/// Takes a token in, and then the book, whose journal isn't shorter than the longest that the token saw.
+fn take_after<R: Wait>(rt: &R, baton: &Baton, main: &mut Token, done: Token) -> Booked
+    requires main { (main.old.baton ≡ baton.now) × (main.old.view.holding ≡ false) × (main.old.view.member.number ≡ 0) }
+    requires done { (done.baton ≡ baton.now) × (done.view.holding ≡ false) }
+    ensures { done.view.most ≤ length result.journal }
+{
+    baton.join(rt, main, done);
+    baton.take(rt, main)
+}
+
+/// Number 0 takes in two tokens that made entries by turns: what it takes then is as long as what they saw.
+fn taken_in<R: Wait + Abort>(rt: &R, alloc: Global) -> Result<(), NoMemory> {
+    let (book, mut words) = opened(alloc, 3)?;
+    let (baton, mut main) = Baton::new(rt, alloc, book)?;
+    let mut one = baton.split(rt, alloc, &mut main)?;
+    let mut two = baton.split(rt, alloc, &mut main)?;
+    let first = add_entry(rt, &baton, &mut one, 1, &mut words);
+    let second = add_entry(rt, &baton, &mut two, 2, &mut words);
+    let last = add_entry(rt, &baton, &mut one, 1, &mut words);
+    assert!(rt; first == 1 && second == 2 && last == 3, "an entry an act");
+    baton.join(rt, &mut main, two);
+    let book = take_after(rt, &baton, &mut main, one);
+    let made = book.journal();
+    let count = made.len();
+    prove!(last <= count);
+    assert!(rt; count == 3, "no other entries");
+    assert!(rt;
+        made[0].by == 1 && made[1].by == 2 && made[2].by == 1,
+        "in turn"
+    );
+    Ok(())
+}
+
+#[test]
+fn what_tokens_saw_is_kept_as_they_are_joined(rt: HostRuntime) {
+    let alloc: Global = rt.alloc();
+    assert!(rt; taken_in(&rt, alloc).is_ok(), "memory");
 }
