@@ -5,7 +5,11 @@
 mod at_book;
 mod gate;
 mod gated;
+mod seats;
+mod workers;
 
 pub use at_book::AtBook;
 pub use gate::{Gate, OpenGate};
 pub use gated::Gated;
+pub use seats::{Chief, Seat, Shared};
+pub use workers::Worker;

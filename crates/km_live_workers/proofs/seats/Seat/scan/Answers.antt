@@ -1,0 +1,8 @@
+use Rattle.km_rounds.specs.Journals.{loads_in}
+use Rattle.km_live_workers.proofs.Stays.{stays}
+use Rattle.km_live_workers.proofs.seats.Seat.scan.Goals as goal
+
+pub returns : goal.returns
+returns g c =
+    let made = c.scan.ensures.0 in
+    record { hand = stays c.args.self.now.words c.scan.new.words (loads_in made.entries) made.stepped; made = made; scan = c.scan.ensures.1 }
