@@ -11,9 +11,10 @@ use Rattle.km_record.specs.Records.{block_of}
 use Rattle.km_state.specs.State.{Tracked}
 use Rattle.km_track.specs.Tracker.{Live, Tracker, is_id, live_with, tracked_of, tracked_in}
 use Rattle.km_words.specs.Told.{Told}
-use Rattle.km_why.specs.Told.{IsInMemory, IsOfWords, TellsSame, block_by, blocks_by, blocks_of, memory_of, stacks_of}
+use Rattle.km_why.specs.Told.{AreReadable, IsInMemory, IsOfWords, TellsSame, block_by, blocks_by, blocks_of, memory_of, stacks_of}
 use Rattle.km_why.specs.References.{references}
 use Rattle.km_why.proofs.Walks.{IsLacking, memory_same, references_append}
+use Rattle.km_why.proofs.Stacks.{tells_after}
 
 -- the scanned words of the blocks from a place on
 abbrev pub blocks_after : Tracker → List RecId → ℕ → List ℕ
@@ -98,3 +99,11 @@ all_within t u blocks same each = subst (λ n. Each (λ (b : Block). IsInMemory 
 pub stacks_all_within : (t u : Told) (tasks : List Task) → TellsSame t u → Each (λ (x : Task). IsInMemory t.size x.stack 4096 × IsOfWords x.stack 4096) tasks
     → Each (λ (x : Task). IsInMemory u.size x.stack 4096 × IsOfWords x.stack 4096) tasks
 stacks_all_within t u tasks same each = subst (λ n. Each (λ (x : Task). IsInMemory n x.stack 4096 × IsOfWords x.stack 4096) tasks) (sym same.size) each
+
+pub readable_after : (t u : Told) (blocks : List Block) (tasks : List Task) → AreReadable t blocks tasks → TellsSame t u → AreReadable u blocks tasks
+readable_after t u blocks tasks r same = record {
+  told = tells_after t u r.told same;
+  small = subst (λ n. n ≤ 4194304) (sym same.size) r.small;
+  blocks_in = all_within t u blocks same r.blocks_in;
+  stacks_in = stacks_all_within t u tasks same r.stacks_in;
+}

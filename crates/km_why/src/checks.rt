@@ -4,13 +4,12 @@ ghost use Rattle.std.specs.Prelude.{◌≡◌, ◌+◌, ◌-◌, ◌<◌, ◌≤
 ghost use Rattle.std.specs.List.{list_any, All};
 ghost use Rattle.km_certificates.specs.Certificates.{first_unfit};
 ghost use Rattle.km_model.specs.Blocks.{Block};
-ghost use Rattle.km_model.specs.Members.{Each, In};
+ghost use Rattle.km_model.specs.Members.{In};
 ghost use Rattle.km_record.specs.declared.kinds.RecId.{RecId as RecordId};
-ghost use Rattle.km_model.specs.Tasks.{Task};
 ghost use Rattle.km_record.specs.Records.{IsSound, block_of};
 ghost use Rattle.km_track.specs.Tracker.{is_live};
 ghost use Rattle.km_why.specs.References.{is_enough, passed_to, references, sources};
-ghost use Rattle.km_why.specs.Told.{AreLaidOut, IsInMemory, IsOfWords, TellsAll, TellsSame, block_by, blocks_by, blocks_of, memory_of, stacks_of, standing_of};
+ghost use Rattle.km_why.specs.Told.{AreLaidOut, AreReadable, TellsAll, TellsSame, block_by, blocks_by, blocks_of, memory_of, stacks_of, standing_of};
 
 use crate::lacking::{Aim, in_sources};
 use km_base::Span;
@@ -32,10 +31,7 @@ fn beyond<M: ObjectMap, W: Words>(
     wanted: u64,
 ) -> u64
     requires few { wanted ≤ 255 }
-    requires told { TellsAll (W.told words.old) }
-    requires within { Each (λ (b : Block). IsInMemory (W.told words.old).size b.start b.size × IsOfWords b.start b.size) (blocks_of track.now) }
-    requires stacks_within { Each (λ (t : Task). IsInMemory (W.told words.old).size t.stack 4096 × IsOfWords t.stack 4096) tasks.now.tasks }
-    requires small { (W.told words.old).size ≤ 4194304 }
+    requires readable { AreReadable (W.told words.old) (blocks_of track.now) tasks.now.tasks }
     ensures lacking { result ≡ wanted - (references (memory_of (W.told words.old)) aim.target aim.but (sources (stacks_of stacks tasks.now.tasks) (blocks_by track.now before.now)) - own) }
     ensures told { TellsSame (W.told words.old) (W.told words.new) }
 {
@@ -63,10 +59,7 @@ fn after_head<M: ObjectMap, W: Words>(
     wanted: u64,
 ) -> u64
     requires few { wanted ≤ 255 }
-    requires told { TellsAll (W.told words.old) }
-    requires within { Each (λ (b : Block). IsInMemory (W.told words.old).size b.start b.size × IsOfWords b.start b.size) (blocks_of track.now) }
-    requires stacks_within { Each (λ (t : Task). IsInMemory (W.told words.old).size t.stack 4096 × IsOfWords t.stack 4096) tasks.now.tasks }
-    requires small { (W.told words.old).size ≤ 4194304 }
+    requires readable { AreReadable (W.told words.old) (blocks_of track.now) tasks.now.tasks }
     ensures lacking { result ≡ wanted - passed_to (memory_of (W.told words.old)) (sources (stacks_of stacks tasks.now.tasks) (blocks_by track.now before.now)) to (block_of 0 head.now) }
     ensures told { TellsSame (W.told words.old) (W.told words.new) }
 {
@@ -94,10 +87,7 @@ fn after_heads<M: ObjectMap, W: Words>(
     wanted: u64,
 ) -> u64
     requires few { wanted ≤ 255 }
-    requires told { TellsAll (W.told words.old) }
-    requires within { Each (λ (b : Block). IsInMemory (W.told words.old).size b.start b.size × IsOfWords b.start b.size) (blocks_of track.now) }
-    requires stacks_within { Each (λ (t : Task). IsInMemory (W.told words.old).size t.stack 4096 × IsOfWords t.stack 4096) tasks.now.tasks }
-    requires small { (W.told words.old).size ≤ 4194304 }
+    requires readable { AreReadable (W.told words.old) (blocks_of track.now) tasks.now.tasks }
     ensures lacking { result ≡ wanted - sum_by (passed_to (memory_of (W.told words.old)) (sources (stacks_of stacks tasks.now.tasks) (blocks_by track.now before.now)) to) (blocks_of track.now) }
     ensures told { TellsSame (W.told words.old) (W.told words.new) }
 {
@@ -122,10 +112,7 @@ fn has_enough<M: ObjectMap, W: Words>(
     before: &[RecId],
     id: RecId,
 ) -> bool
-    requires told { TellsAll (W.told words.old) }
-    requires within { Each (λ (b : Block). IsInMemory (W.told words.old).size b.start b.size × IsOfWords b.start b.size) (blocks_of track.now) }
-    requires stacks_within { Each (λ (t : Task). IsInMemory (W.told words.old).size t.stack 4096 × IsOfWords t.stack 4096) tasks.now.tasks }
-    requires small { (W.told words.old).size ≤ 4194304 }
+    requires { AreReadable (W.told words.old) (blocks_of track.now) tasks.now.tasks }
     ensures enough { (b : Block) → block_by track.now id ≡ Some b → result ≡ is_enough (memory_of (W.told words.old)) (blocks_of track.now) (sources (stacks_of stacks tasks.now.tasks) (blocks_by track.now before.now)) b }
     ensures told { TellsSame (W.told words.old) (W.told words.new) }
 {
@@ -151,10 +138,7 @@ fn lacks_none<M: ObjectMap, W: Words>(
     span: Span,
     needed: u8,
 ) -> bool
-    requires told { TellsAll (W.told words.old) }
-    requires within { Each (λ (b : Block). IsInMemory (W.told words.old).size b.start b.size × IsOfWords b.start b.size) (blocks_of track.now) }
-    requires stacks_within { Each (λ (t : Task). IsInMemory (W.told words.old).size t.stack 4096 × IsOfWords t.stack 4096) tasks.now.tasks }
-    requires small { (W.told words.old).size ≤ 4194304 }
+    requires { AreReadable (W.told words.old) (blocks_of track.now) tasks.now.tasks }
     ensures none { result ≡ nat_le needed (references (memory_of (W.told words.old)) span span (sources (stacks_of stacks tasks.now.tasks) (blocks_by track.now before.now)) + sum_by (passed_to (memory_of (W.told words.old)) (sources (stacks_of stacks tasks.now.tasks) (blocks_by track.now before.now)) span) (blocks_of track.now)) }
     ensures told { TellsSame (W.told words.old) (W.told words.new) }
 {
@@ -182,10 +166,7 @@ fn may_follow<M: ObjectMap, W: Words>(
     before: &[RecId],
     id: RecId,
 ) -> bool
-    requires told { TellsAll (W.told words.old) }
-    requires within { Each (λ (b : Block). IsInMemory (W.told words.old).size b.start b.size × IsOfWords b.start b.size) (blocks_of track.now) }
-    requires stacks_within { Each (λ (t : Task). IsInMemory (W.told words.old).size t.stack 4096 × IsOfWords t.stack 4096) tasks.now.tasks }
-    requires small { (W.told words.old).size ≤ 4194304 }
+    requires { AreReadable (W.told words.old) (blocks_of track.now) tasks.now.tasks }
     ensures may { (b : Block) → block_by track.now id ≡ Some b → result ≡ (not (list_any (λ x. x.generation == id.generation) before.now) && is_enough (memory_of (W.told words.old)) (blocks_of track.now) (sources (stacks_of stacks tasks.now.tasks) (blocks_by track.now before.now)) b) }
     ensures told { TellsSame (W.told words.old) (W.told words.new) }
 {

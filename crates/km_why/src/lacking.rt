@@ -7,7 +7,7 @@ ghost use Rattle.km_model.specs.Memory.{in_memory as is_word, word_at, words_fro
 ghost use Rattle.km_model.specs.Tasks.{Task, stack_words};
 ghost use Rattle.km_record.specs.Records.{IsLaid, IsSound, block_of};
 ghost use Rattle.km_why.specs.References.{has as has_byte, refers_to, references, sources};
-ghost use Rattle.km_why.specs.Told.{IsInMemory, IsOfWords, TellsAll, TellsSame, blocks_by, blocks_of, memory_of, stacks_of};
+ghost use Rattle.km_why.specs.Told.{AreReadable, IsInMemory, IsOfWords, TellsAll, TellsSame, blocks_by, blocks_of, memory_of, stacks_of};
 
 use km_base::sizes::PAGE_WORDS;
 use km_base::{Addr, Span, untag};
@@ -25,7 +25,7 @@ pub struct Aim {
 }
 
 /// Whether a byte is in a span.
-fn has(span: Span, a: u64) -> bool
+pub fn has(span: Span, a: u64) -> bool
     ensures { result ≡ has_byte span a }
 {
     span.start.0 <= a && a - span.start.0 < span.size
@@ -158,10 +158,7 @@ pub fn in_sources<M: ObjectMap, W: Words>(
     aim: Aim,
     wanted: u64,
 ) -> u64
-    requires told { TellsAll (W.told words.old) }
-    requires within { Each (λ (b : Block). IsInMemory (W.told words.old).size b.start b.size × IsOfWords b.start b.size) (blocks_of track.now) }
-    requires stacks_within { Each (λ (t : Task). IsInMemory (W.told words.old).size t.stack 4096 × IsOfWords t.stack 4096) tasks.now.tasks }
-    requires small { (W.told words.old).size ≤ 4194304 }
+    requires { AreReadable (W.told words.old) (blocks_of track.now) tasks.now.tasks }
     ensures lacking { result ≡ wanted - references (memory_of (W.told words.old)) aim.target aim.but (sources (stacks_of stacks tasks.now.tasks) (blocks_by track.now before.now)) }
     ensures told { TellsSame (W.told words.old) (W.told words.new) }
 {

@@ -1,7 +1,7 @@
 use Rattle.std.proofs.Common.{◌∙◌}
 use Rattle.km_model.proofs.Cases.{none_some}
 use Rattle.km_why.proofs.Walks.{told_same, told_then}
-use Rattle.km_why.proofs.Chosen.{all_within, stacks_all_within}
+use Rattle.km_why.proofs.Chosen.{readable_after}
 use Rattle.km_why.proofs.Heads.{walk_begins, walk_looks, stands_live}
 use Rattle.km_why.proofs.checks.after_heads.Goals as goal
 
@@ -13,11 +13,8 @@ unreachable-requires g c =
     let there = stands_live _ _ c.args.track.now _ _ c.in-Some.id c.first-next.ensures.rising c.loop-next.invariant.1 c.in-Some.is in
     none_some there.0 (c.in_default-record.ensures.block ∙ there.1)
 
-pub after_head-lacking-requires-clause-within : goal.after_head-lacking-requires-clause-within
-after_head-lacking-requires-clause-within g c = all_within _ _ _ c.loop-next.invariant.0 c.requires.within
-
-pub after_head-lacking-requires-clause-stacks_within : goal.after_head-lacking-requires-clause-stacks_within
-after_head-lacking-requires-clause-stacks_within g c = stacks_all_within _ _ _ c.loop-next.invariant.0 c.requires.stacks_within
+pub after_head-lacking-requires-clause-readable : goal.after_head-lacking-requires-clause-readable
+after_head-lacking-requires-clause-readable g c = readable_after _ _ _ _ c.requires.readable c.loop-next.invariant.0
 
 pub loop-next-smaller : goal.loop-next-smaller
 loop-next-smaller g c =
