@@ -82,6 +82,32 @@ pub walk_left : (f : Block → ℕ) (wanted : ℕ) (live : List Live) (high : �
 walk_left f wanted live high next lacking w r =
     ap (λ (n : Option RecId). live_from n live) w.at ∙ ap (live_from (option_map id_of (first_live w.rest))) w.was ∙ from_rest 0 high w.prefix w.rest (subst (λ ls. AreRising 0 ls high) w.was r)
 
+-- a walk that has gone on from a live block
+pub record IsStep (f : Block → ℕ) (wanted : ℕ) (live : List Live) (next after : Option RecId) (left : ℕ) (l : Live) : Type 0 where
+  pub walk : IsWalk f wanted live after left
+  pub split : live_from next live ≡ l ∷ live_from after live
+
+pub walk_steps : (f : Block → ℕ) (wanted : ℕ) (tracker : Tracker) (next after : Option RecId) (lacking left : ℕ) (id : RecId) (r : Record)
+    → AreRising 0 tracker.live tracker.registered → IsWalk f wanted tracker.live next lacking → next ≡ Some id
+    → Some (record { slot = id.slot; tracked = tracked_of id.generation r }) ≡ live_with id tracker
+    → left ≡ lacking - f (block_of id.generation r) → after ≡ option_map id_of (live_behind id tracker.live)
+    → IsStep f wanted tracker.live next after left (record { slot = id.slot; tracked = tracked_of id.generation r })
+walk_steps f wanted tracker next after lacking left id r rising w e found is n =
+    let l : Live = record { slot = id.slot; tracked = tracked_of id.generation r } in
+    let s = stands_on f wanted tracker.live tracker.registered next lacking id w rising e in
+    let it : s.it ≡ l = some_same s.it l (sym (found ∙ s.found)) in
+    record {
+      walk = walk_goes_on f wanted tracker.live next after lacking left id w s (is ∙ ap (λ (x : Live). lacking - f x.tracked.block) (sym it)) n;
+      split = walk_left f wanted tracker.live tracker.registered next lacking w rising ∙ s.there ∙ ap (λ (x : Live). x ∷ s.more) it ∙ ap (λ ls. l ∷ ls) (sym (left_after s));
+    }
+  where
+    left_after : (s : StandsOn tracker.live w.prefix w.rest id) → live_from after tracker.live ≡ s.more
+    left_after s =
+        let rising' = subst (λ ls. AreRising 0 ls tracker.registered) (w.was ∙ ap (λ ls. w.prefix ++ ls) s.there ∙ sym (append_assoc w.prefix (s.it ∷ []) s.more)) rising in
+        ap (λ (o : Option RecId). live_from o tracker.live) (n ∙ ap (option_map id_of) s.behind)
+        ∙ ap (live_from (option_map id_of (first_live s.more))) (w.was ∙ ap (λ ls. w.prefix ++ ls) s.there ∙ sym (append_assoc w.prefix (s.it ∷ []) s.more))
+        ∙ from_rest 0 tracker.registered (w.prefix ++ s.it ∷ []) s.more rising'
+
 -- a walk that looks at a head
 pub record IsLook (f : Block → ℕ) (wanted : ℕ) (live : List Live) (next after : Option RecId) (left : ℕ) : Type 0 where
   pub walk : IsWalk f wanted live after left
@@ -93,22 +119,9 @@ pub walk_looks : (t u : Told) (srcs : List ℕ) (to : Span) (wanted : ℕ) (trac
     → left ≡ lacking - passed_to (memory_of u) srcs to (block_of 0 r) → after ≡ option_map id_of (live_behind id tracker.live)
     → IsLook (passed_to (memory_of t) srcs to) wanted tracker.live next after left
 walk_looks t u srcs to wanted tracker next after lacking left id r same rising w e found is n =
-    let f : Block → ℕ = passed_to (memory_of t) srcs to in
-    let s = stands_on f wanted tracker.live tracker.registered next lacking id w rising e in
-    let it : s.it ≡ record { slot = id.slot; tracked = tracked_of id.generation r } = some_same s.it (record { slot = id.slot; tracked = tracked_of id.generation r }) (sym (found ∙ s.found)) in
-    let left' : left ≡ lacking - f s.it.tracked.block =
-    is ∙ ap (λ m. lacking - passed_to m srcs to (block_of 0 r)) (memory_same t u same) ∙ ap (λ (l : Live). lacking - f l.tracked.block) (sym it) in
-    let on = walk_goes_on f wanted tracker.live next after lacking left id w s left' n in
-    let before : length (live_from next tracker.live) ≡ length (s.it ∷ s.more) = ap length (walk_left f wanted tracker.live tracker.registered next lacking w rising ∙ s.there) in
-    let behind : length (live_from after tracker.live) ≡ length s.more = goes s on in
-    record { walk = on; smaller = omega (arith, before, behind) }
-  where
-    goes : (s : StandsOn tracker.live w.prefix w.rest id) (on : IsWalk (passed_to (memory_of t) srcs to) wanted tracker.live after left) → length (live_from after tracker.live) ≡ length s.more
-    goes s on =
-        let rising' = subst (λ ls. AreRising 0 ls tracker.registered) (w.was ∙ ap (λ ls. w.prefix ++ ls) s.there ∙ sym (append_assoc w.prefix (s.it ∷ []) s.more)) rising in
-        ap length (ap (λ (o : Option RecId). live_from o tracker.live) (n ∙ ap (option_map id_of) s.behind)
-        ∙ ap (live_from (option_map id_of (first_live s.more))) (w.was ∙ ap (λ ls. w.prefix ++ ls) s.there ∙ sym (append_assoc w.prefix (s.it ∷ []) s.more))
-        ∙ from_rest 0 tracker.registered (w.prefix ++ s.it ∷ []) s.more rising')
+    let s = walk_steps (passed_to (memory_of t) srcs to) wanted tracker next after lacking left id r rising w e found (is ∙ ap (λ m. lacking - passed_to m srcs to (block_of 0 r)) (memory_same t u same)) n in
+    let more = ap length s.split in
+    record { walk = s.walk; smaller = omega (arith, more) }
 
 -- a live block is there
 pub stands_live : (f : Block → ℕ) (wanted : ℕ) (tracker : Tracker) (next : Option RecId) (lacking : ℕ) (id : RecId) → AreRising 0 tracker.live tracker.registered → IsWalk f wanted tracker.live next lacking → next ≡ Some id

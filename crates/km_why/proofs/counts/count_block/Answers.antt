@@ -1,0 +1,25 @@
+use Rattle.std.proofs.Common.{arith}
+use Rattle.km_record.specs.Records.{block_of}
+use Rattle.km_why.proofs.Walks.{next_above, told_same}
+use Rattle.km_why.proofs.Passed.{begins, block_begins, block_over, block_split, goes_on, has_room, is_over}
+use Rattle.km_why.proofs.counts.count_block.Goals as goal
+
+pub loop-i-init : goal.loop-i-init
+loop-i-init g c = begins _ _ _ _ _ _ (told_same _) (block_begins (block_of 0 c.args.block.now))
+
+pub count_word-requires-clause-room : goal.count_word-requires-clause-room
+count_word-requires-clause-room g c = has_room _ _ _ _ _ _ _ _ _ c.requires.room c.loop-i.invariant (block_split (block_of 0 c.args.block.now) c.loop-i.from c.in-Some.i c.in-Some.ensures.least)
+
+pub loop-i-smaller : goal.loop-i-smaller
+loop-i-smaller g c =
+    let le = next_above (block_of 0 c.args.block.now) c.loop-i.from c.in-Some.i c.in-Some.ensures.least in
+    let lt = c.in-Some.ensures.within in
+    omega (arith, le, lt)
+
+pub loop-i-preserved : goal.loop-i-preserved
+loop-i-preserved g c =
+    goes_on _ _ _ _ _ _ _ _ _ _ _ c.loop-i.invariant (block_split (block_of 0 c.args.block.now) c.loop-i.from c.in-Some.i c.in-Some.ensures.least)
+    c.count_word.ensures.counted c.count_word.ensures.long c.count_word.ensures.told
+
+pub returns-clause-counted : goal.returns-clause-counted
+returns-clause-counted g c = is_over _ _ _ _ _ _ _ c.loop-i.invariant (block_over (block_of 0 c.args.block.now) c.loop-i.from c.in_default.ensures.least)

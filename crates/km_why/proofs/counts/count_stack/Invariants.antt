@@ -1,0 +1,9 @@
+use Rattle.km_model.specs.Memory.{words_from}
+use Rattle.km_why.specs.Told.{blocks_of}
+use Rattle.km_why.proofs.Walks.{rest_of_stack}
+use Rattle.km_why.proofs.Passed.{IsCounting}
+use Rattle.km_why.proofs.counts.count_stack.Given as goal
+
+abbrev pub invariant-loop-i : goal.invariant-loop-i
+invariant-loop-i g l =
+    IsCounting (g.W.Words.told l.fn.words) (g.W.Words.told l.words) (blocks_of l.track) (words_from 512 l.stack.0) l.fn.counts.items l.counts.items (rest_of_stack l.stack.0 l.i)
