@@ -34,7 +34,7 @@ pub record IsClearing (t : Tracker) (next : Option RecId) (old now : List Count)
   pub none : (b : Block) → In b (blocks_of t) → IsNone now b ⊎ In b (blocks_on (live_from next t.live))
   pub long : length now ≡ length old
 
-on_is : (ls : List Live) → blocks_in (map (λ (l : Live). l.tracked) ls) ≡ blocks_on ls
+pub on_is : (ls : List Live) → blocks_in (map (λ (l : Live). l.tracked) ls) ≡ blocks_on ls
 on_is [] = refl
 on_is (l ∷ ls) = ap (λ bs. l.tracked.block ∷ bs) (on_is ls)
 

@@ -332,7 +332,7 @@ counted_referred memory blocks rise apart aligned some ws cs a value r room is w
     subst (AreCounted memory blocks (ws ++ a ∷ [])) (sym (made w.id))
     (counted_hit memory blocks rise apart aligned some ws cs old a (block_of w.id r) w.live (subst (λ v. has (span_of (block_of w.id r)) (untagged v) ≡ true) is w.aimed) w.out room)
 
-added_long : (cs : List Count) (p : ℕ) → length (added cs p) ≡ length cs
+pub added_long : (cs : List Count) (p : ℕ) → length (added cs p) ≡ length cs
 added_long cs p = length-set cs p (record { found = (count_at cs p).found; outside = (count_at cs p).outside + 1 })
 
 raised_length : (cs : List Count) (p : ℕ) → length (raised cs p) ≡ length cs

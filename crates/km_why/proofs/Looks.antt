@@ -9,7 +9,7 @@ use Rattle.km_record.specs.declared.kinds.RecId.{RecId}
 use Rattle.km_record.specs.declared.record.Record.{Record}
 use Rattle.km_record.specs.Records.{block_of}
 use Rattle.km_state.specs.State.{Tracked, blocks_in}
-use Rattle.km_track.specs.Tracker.{AreRising, Live, Tracker, begins, id_of, live_where, live_with, tracked_of}
+use Rattle.km_track.specs.Tracker.{AreRising, Live, Tracker, begins, id_of, is_id, live_where, live_with, tracked_of}
 use Rattle.km_scan.proofs.Referred.{looked, looked_start}
 use Rattle.km_model.proofs.Lists.{Pairs}
 use Rattle.km_model.specs.Memory.{index_of, word_at}
@@ -22,6 +22,7 @@ use Rattle.km_why.proofs.Chosen.{record_is}
 use Rattle.std.proofs.Math.ListN.{length-set}
 use Rattle.km_why.specs.declared.counts.Count.{Count}
 use Rattle.km_why.specs.Counts.{IsReferred, count_at, raised}
+use Rattle.km_why.specs.Waiting.{live_as}
 
 -- a search among the blocks is one among the live ones
 searched : (p : Block → Bool) (ls : List Live) → find p (blocks_in (map (λ (l : Live). l.tracked) ls)) ≡ option_map (λ (l : Live). l.tracked.block) (find (λ (l : Live). p l.tracked.block) ls)
@@ -48,6 +49,10 @@ begin_is t a id r rising e found =
     let k = looked (begins a) t id e in
     ap (λ (u : Tracked). Some (span_of u.block)) (sym (looked_start (begins a) t id k r rising found))
     ∙ ap (option_map span_of) (sym (searched (begins a) t.live ∙ ap (option_map (λ (x : Live). x.tracked.block)) k.found))
+
+-- a record is that of a live block
+pub is_there_as : (t : Tracker) (id : RecId) (r : Record) → Some (live_as id r) ≡ live_with id t → In (live_as id r) t.live
+is_there_as t id r e = (find_in (is_id id) t.live (live_as id r) (sym e)).1
 
 -- none of these passes
 missing : (p : Block → Bool) (bs : List Block) → find p bs ≡ None → (c : Block) → In c bs → p c ≡ false

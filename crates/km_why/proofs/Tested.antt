@@ -67,7 +67,7 @@ apart_push t words tasks before b laid a i out = record {
       ]));
 }
 
-source_of : (t : Tracker) (words : ℕ) (stacks : Bool) (tasks : List Task) (before : List Block) → AreLaidOut words (blocks_of t) tasks → IsApart t before → IsSource words (stacks_of stacks tasks) before
+pub source_of : (t : Tracker) (words : ℕ) (stacks : Bool) (tasks : List Task) (before : List Block) → AreLaidOut words (blocks_of t) tasks → IsApart t before → IsSource words (stacks_of stacks tasks) before
 source_of t words true tasks before laid a = record {
   blocks_in = in_each (λ (b : Block). IsInMemory words b.start b.size × IsOfWords b.start b.size) before (λ b i. each_in (λ (c : Block). IsInMemory words c.start c.size × IsOfWords c.start c.size) (blocks_of t) b laid.blocks_in (each_in (λ c. In c (blocks_of t)) before b a.inside i));
   blocks_apart = a.apart;

@@ -8,19 +8,24 @@ ghost use Rattle.km_model.specs.Members.{Each, In, Pairs};
 ghost use Rattle.km_model.specs.Scan.{excess_block};
 ghost use Rattle.km_model.specs.Tasks.{Task, stack_words};
 ghost use Rattle.km_record.specs.Records.{IsLaid, IsSound, block_of};
+ghost use Rattle.std.specs.BinaryHeap.{heap_capacity, heap_items, heap_len};
+ghost use Rattle.km_track.specs.Tracker.{AreRising, Live};
+ghost use Rattle.km_why.specs.Waiting.{ArePlaced, AreWaiting, CanWait, HaveMembers, live_as};
 ghost use Rattle.km_why.specs.Told.{AreApart, IsInMemory, IsOfWords, TellsAll, TellsSame, blocks_of, memory_of};
 ghost use Rattle.km_why.specs.Counts.{AreCounted, AreSpread, HaveRoom, IsReferred, added, count_at, counted_in, none_found, passed_in, raised};
 ghost use Rattle.km_why.specs.References.{refers_to, span_of};
 
 use crate::lacking::has;
+use crate::waiting::{Waiting, raise_block};
 use km_base::sizes::{BASE, PAGE_WORDS};
 use km_base::{Addr, NoMemory, Span, untag};
 use km_map::ObjectMap;
-use km_record::{Minimum, Record};
+use km_record::{Minimum, RecId, Record};
 use km_tasks::Tasks;
 use km_track::Track;
 use km_words::Words;
 use std::alloc::Global;
+use std::collections::BinaryHeap;
 
 /// The references to a block that were found so far, those passed on to it among them; and, of a head, those that aren't
 /// in the block to which they are passed on.
@@ -107,39 +112,51 @@ pub fn add_outside(counts: &mut Vec<Count>, start: Addr) -> u32
     count.outside
 }
 
-/// Counts what the head that begins at a word passes on by a word at an address to a block, which is given by its span.
-fn pass_on(counts: &mut Vec<Count>, head: Addr, min: u8, to: Span, a: Addr)
+/// Counts what the head that begins at a word passes on by a word at an address to a live block.
+fn pass_on(
+    counts: &mut Vec<Count>,
+    waiting: &mut BinaryHeap<Waiting>,
+    head: Addr,
+    min: u8,
+    id: RecId,
+    to: &Record,
+    a: Addr,
+)
     requires low { base ≤ head.0 }
     requires within { index_of head.0 < length counts.old.items }
     requires small { (count_at counts.old.items (index_of head.0)).outside + 1 < 2 ^ 32 }
-    requires to_low { base ≤ to.start.0 }
-    requires to_within { index_of to.start.0 < length counts.old.items }
-    requires to_small { (count_at counts.old.items (index_of to.start.0)).found + 1 < 2 ^ 32 }
-    ensures { (e : Block) → span_of e ≡ to → counts.new.items ≡ passed_in counts.old.items a.0 (index_of head.0) min e }
+    requires to_low { base ≤ to.now.span.start.0 }
+    requires to_within { index_of to.now.span.start.0 < length counts.old.items }
+    requires to_small { (count_at counts.old.items (index_of to.now.span.start.0)).found + 1 < 2 ^ 32 }
+    requires room { CanWait counts.old.items (heap_items waiting.old) (heap_len waiting.old) (heap_capacity waiting.old) id to.now }
+    ensures items { (e : Block) → span_of e ≡ to.now.span → counts.new.items ≡ passed_in counts.old.items a.0 (index_of head.0) min e }
+    ensures waits { (live : List Live) (high : ℕ) (members : List Block) → ArePlaced live high → In (live_as id to.now) live → AreWaiting live counts.old.items members (heap_items waiting.old) (heap_len waiting.old) (heap_capacity waiting.old) → AreWaiting live counts.new.items members (heap_items waiting.new) (heap_len waiting.new) (heap_capacity waiting.new) }
 {
-    if has(to, a.0) {
+    if has(to.span, a.0) {
         return;
     }
     let outside = add_outside(counts, head);
     if outside > u32::from(min) {
-        raise(counts, to.start);
+        raise_block(counts, waiting, id, to);
     }
 }
 
 /// The block that begins at an address.
-fn beginning_at<M: ObjectMap>(track: &Track<M>, start: Addr) -> Option<Span>
-    ensures { result ≡ option_map span_of (block_at (blocks_of track.now) start.0) }
+fn beginning_at<M: ObjectMap>(track: &Track<M>, start: Addr) -> Option<(RecId, &Record)>
+    ensures block { option_map (λ r. r.1.now.span) result ≡ option_map span_of (block_at (blocks_of track.now) start.0) }
+    ensures there { IfSome result (λ r. In (live_as r.0 r.1.now) track.now.live) }
 {
     let id = track.starting_at(start)?;
     let record = track.record(id)?;
-    Some(record.span)
+    Some((id, record))
 }
 
 /// The block into which a word at an address points from outside.
-fn referred<M: ObjectMap>(track: &Track<M>, a: Addr, value: u64) -> Option<&Record>
+fn referred<M: ObjectMap>(track: &Track<M>, a: Addr, value: u64) -> Option<(RecId, &Record)>
     requires rise { Pairs (λ (b c : Block). b.id < c.id) (blocks_of track.now) }
     requires apart { Pairs (λ (b c : Block). AreApart b.start b.size c.start c.size) (blocks_of track.now) }
-    ensures some { IfSome result (λ r. IsReferred (blocks_of track.now) a.0 value r.now) }
+    ensures some { IfSome result (λ r. IsReferred (blocks_of track.now) a.0 value r.1.now) }
+    ensures there { IfSome result (λ r. In (live_as r.0 r.1.now) track.now.live × AreRising 0 track.now.live track.now.registered) }
     ensures none { IfNone result ((c : Block) (but : Bytes) → In c (blocks_of track.now) → refers_to (span_of c) but a.0 value ≡ false) }
 {
     let Some(id) = track.look(Addr(untag(value))) else {
@@ -151,32 +168,44 @@ fn referred<M: ObjectMap>(track: &Track<M>, a: Addr, value: u64) -> Option<&Reco
     if has(block.span, a.0) {
         return None;
     }
-    Some(block)
+    Some((id, block))
 }
 
 /// Counts the reference that a word outside a block is to it, and what the block passes on.
-fn hit<M: ObjectMap>(counts: &mut Vec<Count>, track: &Track<M>, a: Addr, block: &Record)
+fn hit<M: ObjectMap>(
+    counts: &mut Vec<Count>,
+    waiting: &mut BinaryHeap<Waiting>,
+    track: &Track<M>,
+    a: Addr,
+    id: RecId,
+    block: &Record,
+)
+    requires there { In (live_as id block.now) track.now.live }
+    requires placed { ArePlaced track.now.live track.now.registered }
     requires live { (id : ℕ) × In (block_of id block.now) (blocks_of track.now) }
     requires aligned { Each (λ (b : Block). base ≤ b.start) (blocks_of track.now) }
     requires room { (b : Block) → In b (blocks_of track.now) → index_of b.start < length counts.old.items }
     requires small { (b : Block) → In b (blocks_of track.now) → ((count_at counts.old.items (index_of b.start)).found + 2 < 2 ^ 32) × ((count_at counts.old.items (index_of b.start)).outside + 1 < 2 ^ 32) }
-    ensures items { (id : ℕ) → counts.new.items ≡ counted_in counts.old.items a.0 (block_of id block.now) (excess_block (blocks_of track.now) (block_of id block.now)) }
+    requires waits { HaveMembers track.now.live counts.old.items (heap_items waiting.old) (heap_len waiting.old) (heap_capacity waiting.old) }
+    ensures items { (n : ℕ) → counts.new.items ≡ counted_in counts.old.items a.0 (block_of n block.now) (excess_block (blocks_of track.now) (block_of n block.now)) }
+    ensures waits { (members : List Block) → AreWaiting track.now.live counts.old.items members (heap_items waiting.old) (heap_len waiting.old) (heap_capacity waiting.old) → AreWaiting track.now.live counts.new.items members (heap_items waiting.new) (heap_len waiting.new) (heap_capacity waiting.new) }
 {
-    raise(counts, block.span.start);
+    raise_block(counts, waiting, id, block);
     let Minimum::AtLeast(min) = block.minimum else {
         return;
     };
     let Some(to) = block.excess else {
         return;
     };
-    if let Some(to) = beginning_at(track, to) {
-        pass_on(counts, block.span.start, min, to, a);
+    if let Some((to_id, to)) = beginning_at(track, to) {
+        pass_on(counts, waiting, block.span.start, min, to_id, to, a);
     }
 }
 
 /// Loads a word, and counts the reference that it is.
 fn count_word<M: ObjectMap, W: Words>(
     counts: &mut Vec<Count>,
+    waiting: &mut BinaryHeap<Waiting>,
     track: &Track<M>,
     words: &mut W,
     a: Addr,
@@ -186,19 +215,22 @@ fn count_word<M: ObjectMap, W: Words>(
     requires spread { AreSpread (W.told words.old).size track.now }
     requires long { (W.told words.old).size ≤ length counts.old.items }
     requires room { HaveRoom (memory_of (W.told words.old)) (blocks_of track.now) counts.old.items (a.0 ∷ []) }
+    requires waits { HaveMembers track.now.live counts.old.items (heap_items waiting.old) (heap_len waiting.old) (heap_capacity waiting.old) }
     ensures counted { (ws : List ℕ) → AreCounted (memory_of (W.told words.old)) (blocks_of track.now) ws counts.old.items → AreCounted (memory_of (W.told words.old)) (blocks_of track.now) (ws ++ a.0 ∷ []) counts.new.items }
     ensures long { length counts.new.items ≡ length counts.old.items }
+    ensures waits { (members : List Block) → AreWaiting track.now.live counts.old.items members (heap_items waiting.old) (heap_len waiting.old) (heap_capacity waiting.old) → AreWaiting track.now.live counts.new.items members (heap_items waiting.new) (heap_len waiting.new) (heap_capacity waiting.new) }
     ensures told { TellsSame (W.told words.old) (W.told words.new) }
 {
     let value = words.load(a);
-    if let Some(block) = referred(track, a, value) {
-        hit(counts, track, a, block);
+    if let Some((id, block)) = referred(track, a, value) {
+        hit(counts, waiting, track, a, id, block);
     }
 }
 
 /// Counts the references in the scanned words of a block.
 pub fn count_block<M: ObjectMap, W: Words>(
     counts: &mut Vec<Count>,
+    waiting: &mut BinaryHeap<Waiting>,
     track: &Track<M>,
     words: &mut W,
     block: &Record,
@@ -210,13 +242,21 @@ pub fn count_block<M: ObjectMap, W: Words>(
     requires spread { AreSpread (W.told words.old).size track.now }
     requires long { (W.told words.old).size ≤ length counts.old.items }
     requires room { HaveRoom (memory_of (W.told words.old)) (blocks_of track.now) counts.old.items (scanned_words (block_of 0 block.now)) }
+    requires waits { HaveMembers track.now.live counts.old.items (heap_items waiting.old) (heap_len waiting.old) (heap_capacity waiting.old) }
     ensures counted { (ws : List ℕ) → AreCounted (memory_of (W.told words.old)) (blocks_of track.now) ws counts.old.items → AreCounted (memory_of (W.told words.old)) (blocks_of track.now) (ws ++ scanned_words (block_of 0 block.now)) counts.new.items }
     ensures long { length counts.new.items ≡ length counts.old.items }
+    ensures waits { (members : List Block) → AreWaiting track.now.live counts.old.items members (heap_items waiting.old) (heap_len waiting.old) (heap_capacity waiting.old) → AreWaiting track.now.live counts.new.items members (heap_items waiting.new) (heap_len waiting.new) (heap_capacity waiting.new) }
     ensures told { TellsSame (W.told words.old) (W.told words.new) }
 {
     let mut from = 0;
     while let Some(i) = block.next_word(from) {
-        count_word(counts, track, words, Addr(block.span.start.0 + 8 * i));
+        count_word(
+            counts,
+            waiting,
+            track,
+            words,
+            Addr(block.span.start.0 + 8 * i),
+        );
         from = i + 1;
     }
 }
@@ -224,6 +264,7 @@ pub fn count_block<M: ObjectMap, W: Words>(
 /// Counts the references in the words of a stack.
 fn count_stack<M: ObjectMap, W: Words>(
     counts: &mut Vec<Count>,
+    waiting: &mut BinaryHeap<Waiting>,
     track: &Track<M>,
     words: &mut W,
     stack: Addr,
@@ -235,18 +276,21 @@ fn count_stack<M: ObjectMap, W: Words>(
     requires spread { AreSpread (W.told words.old).size track.now }
     requires long { (W.told words.old).size ≤ length counts.old.items }
     requires room { HaveRoom (memory_of (W.told words.old)) (blocks_of track.now) counts.old.items (words_from 512 stack.0) }
+    requires waits { HaveMembers track.now.live counts.old.items (heap_items waiting.old) (heap_len waiting.old) (heap_capacity waiting.old) }
     ensures counted { (ws : List ℕ) → AreCounted (memory_of (W.told words.old)) (blocks_of track.now) ws counts.old.items → AreCounted (memory_of (W.told words.old)) (blocks_of track.now) (ws ++ words_from 512 stack.0) counts.new.items }
     ensures long { length counts.new.items ≡ length counts.old.items }
+    ensures waits { (members : List Block) → AreWaiting track.now.live counts.old.items members (heap_items waiting.old) (heap_len waiting.old) (heap_capacity waiting.old) → AreWaiting track.now.live counts.new.items members (heap_items waiting.new) (heap_len waiting.new) (heap_capacity waiting.new) }
     ensures told { TellsSame (W.told words.old) (W.told words.new) }
 {
     for i in 0..PAGE_WORDS {
-        count_word(counts, track, words, Addr(stack.0 + 8 * i));
+        count_word(counts, waiting, track, words, Addr(stack.0 + 8 * i));
     }
 }
 
 /// Counts the references in the stacks of the live tasks.
 pub fn count_stacks<M: ObjectMap, W: Words>(
     counts: &mut Vec<Count>,
+    waiting: &mut BinaryHeap<Waiting>,
     track: &Track<M>,
     tasks: &Tasks,
     words: &mut W,
@@ -257,13 +301,15 @@ pub fn count_stacks<M: ObjectMap, W: Words>(
     requires spread { AreSpread (W.told words.old).size track.now }
     requires long { (W.told words.old).size ≤ length counts.old.items }
     requires room { HaveRoom (memory_of (W.told words.old)) (blocks_of track.now) counts.old.items (flat_map stack_words tasks.now.tasks) }
+    requires waits { HaveMembers track.now.live counts.old.items (heap_items waiting.old) (heap_len waiting.old) (heap_capacity waiting.old) }
     ensures counted { (ws : List ℕ) → AreCounted (memory_of (W.told words.old)) (blocks_of track.now) ws counts.old.items → AreCounted (memory_of (W.told words.old)) (blocks_of track.now) (ws ++ flat_map stack_words tasks.now.tasks) counts.new.items }
     ensures long { length counts.new.items ≡ length counts.old.items }
+    ensures waits { (members : List Block) → AreWaiting track.now.live counts.old.items members (heap_items waiting.old) (heap_len waiting.old) (heap_capacity waiting.old) → AreWaiting track.now.live counts.new.items members (heap_items waiting.new) (heap_len waiting.new) (heap_capacity waiting.new) }
     ensures told { TellsSame (W.told words.old) (W.told words.new) }
 {
     let mut last = 0;
     while let Some((number, stack)) = tasks.next_after(last) {
-        count_stack(counts, track, words, stack.start);
+        count_stack(counts, waiting, track, words, stack.start);
         last = number;
     }
 }

@@ -4,14 +4,19 @@ use Rattle.km_why.proofs.Passed.{begins, goes_on, has_room, is_over, stack_begin
 use Rattle.km_why.proofs.counts.count_stack.Goals as goal
 
 pub loop-i-init : goal.loop-i-init
-loop-i-init g c = begins _ _ _ _ _ _ (told_same _) (stack_begins c.args.stack.0)
+loop-i-init g c = (begins _ _ _ _ _ _ (told_same _) (stack_begins c.args.stack.0), λ members w. w)
 
 pub count_word-requires-clause-room : goal.count_word-requires-clause-room
-count_word-requires-clause-room g c = has_room _ _ _ _ _ _ _ _ _ c.requires.room c.loop-i.invariant (stack_split c.args.stack.0 c.loop-i.i c.loop-i-test.true)
+count_word-requires-clause-room g c = has_room _ _ _ _ _ _ _ _ _ c.requires.room c.loop-i.invariant.0 (stack_split c.args.stack.0 c.loop-i.i c.loop-i-test.true)
 
 pub loop-i-preserved : goal.loop-i-preserved
-loop-i-preserved g c =
-    goes_on _ _ _ _ _ _ _ _ _ _ _ c.loop-i.invariant (stack_split c.args.stack.0 c.loop-i.i c.loop-i-test.true) c.count_word.ensures.counted c.count_word.ensures.long c.count_word.ensures.told
+loop-i-preserved g c = (
+  goes_on _ _ _ _ _ _ _ _ _ _ _ c.loop-i.invariant.0 (stack_split c.args.stack.0 c.loop-i.i c.loop-i-test.true) c.count_word.ensures.counted c.count_word.ensures.long c.count_word.ensures.told,
+  λ members w. c.count_word.ensures.waits members (c.loop-i.invariant.1 members w),
+)
 
 pub returns-clause-counted : goal.returns-clause-counted
-returns-clause-counted g c = is_over _ _ _ _ _ _ _ c.loop-i.invariant (stack_over c.args.stack.0 c.loop-i.i c.loop-i-test.false)
+returns-clause-counted g c = is_over _ _ _ _ _ _ _ c.loop-i.invariant.0 (stack_over c.args.stack.0 c.loop-i.i c.loop-i-test.false)
+
+pub count_word-requires-clause-waits : goal.count_word-requires-clause-waits
+count_word-requires-clause-waits g c = record { members = c.requires.waits.members; waiting = c.loop-i.invariant.1 c.requires.waits.members c.requires.waits.waiting }

@@ -4,7 +4,7 @@ use Rattle.km_why.proofs.Passed.{begins, goes_on, has_room, is_over, tasks_begin
 use Rattle.km_why.proofs.counts.count_stacks.Goals as goal
 
 pub loop-number-init : goal.loop-number-init
-loop-number-init g c = (told_same _, λ high numbers. begins _ _ _ _ _ _ (told_same _) (tasks_begin high c.args.tasks.now.tasks numbers))
+loop-number-init g c = (told_same _, λ high numbers. begins _ _ _ _ _ _ (told_same _) (tasks_begin high c.args.tasks.now.tasks numbers), λ members w. w)
 
 pub count_stack-requires-clause-within : goal.count_stack-requires-clause-within
 count_stack-requires-clause-within g c =
@@ -30,7 +30,11 @@ loop-number-preserved g c =
       told_then _ _ _ c.loop-number.invariant.0 c.count_stack.ensures.told,
       λ high numbers. goes_on _ _ _ _ _ _ _ _ _ _ _ (c.loop-number.invariant.1 high numbers) (tasks_next high c.args.tasks.now.tasks c.loop-number.last c.in-Some.number c.in-Some.stack.start.0 numbers next)
           c.count_stack.ensures.counted c.count_stack.ensures.long c.count_stack.ensures.told,
+      λ members w. c.count_stack.ensures.waits members (c.loop-number.invariant.2 members w),
     )
 
 pub returns-clause-counted : goal.returns-clause-counted
 returns-clause-counted g c = is_over _ _ _ _ _ _ _ (c.loop-number.invariant.1 _ c.in_default.ensures.numbers) (stacks_over c.args.tasks.now.tasks c.loop-number.last c.in_default.ensures.number)
+
+pub count_stack-requires-clause-waits : goal.count_stack-requires-clause-waits
+count_stack-requires-clause-waits g c = record { members = c.requires.waits.members; waiting = c.loop-number.invariant.2 c.requires.waits.members c.requires.waits.waiting }

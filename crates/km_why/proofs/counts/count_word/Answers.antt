@@ -7,6 +7,7 @@ use Rattle.km_why.specs.References.{refers_to, span_of}
 use Rattle.km_why.proofs.Looks.{value_is}
 use Rattle.km_why.proofs.Counted.{counted_long, counted_none, counted_referred}
 use Rattle.km_why.proofs.Passed.{all_aligned, all_low, all_small, place_within}
+use Rattle.km_why.proofs.Placed.{placed_spread}
 use Rattle.km_why.proofs.counts.count_word.Goals as goal
 
 pub hit-requires-clause-aligned : goal.hit-requires-clause-aligned
@@ -30,3 +31,6 @@ pub returns-in_default-clause-counted : goal.returns-in_default-clause-counted
 returns-in_default-clause-counted g c = λ ws old.
     counted_none _ _ c.requires.spread.rise c.requires.spread.apart ws c.args.counts.now.items c.args.a.0 old
     (λ d i but. subst (λ v. refers_to (span_of d) but c.args.a.0 v ≡ false) (value_is (g.W.Words.told c.args.words.now) c.args.a.0 c.load-value.result c.requires.told.some c.load-value.ensures.memory) (c.in_default.ensures.none d but i))
+
+pub hit-requires-clause-placed : goal.hit-requires-clause-placed
+hit-requires-clause-placed g c = placed_spread _ _ c.requires.spread c.in-Some.ensures.there.1

@@ -1,7 +1,7 @@
 use Rattle.std.proofs.Common.{sym, ◌∙◌}
 use Rattle.km_model.specs.Blocks.{contains}
 use Rattle.km_scan.proofs.Referred.{looked, looked_there}
-use Rattle.km_why.proofs.Looks.{in_its_own, none_at, referred_at}
+use Rattle.km_why.proofs.Looks.{in_its_own, is_there_as, none_at, referred_at}
 use Rattle.km_why.proofs.counts.referred.Goals as goal
 
 pub returns-in_default-clause-none : goal.returns-in_default-clause-none
@@ -20,3 +20,6 @@ pub returns-clause-some : goal.returns-clause-some
 returns-clause-some g c =
     referred_at c.args.track.now c.args.a.0 c.args.value c.untag.result c.in-Some.id c.in-Some-record.block.now c.untag.ensures c.record.ensures.rising c.in-Some.ensures c.in-Some-record.ensures.block
     (sym c.has.ensures ∙ c.if-has.false)
+
+pub returns-clause-there : goal.returns-clause-there
+returns-clause-there g c = (is_there_as c.args.track.now c.in-Some.id c.in-Some-record.block.now c.in-Some-record.ensures.block, c.record.ensures.rising)
