@@ -102,7 +102,7 @@ none_passed memory to (h ∷ bs) = sum_by-cons (passed_to memory [] to) h bs ∙
     none true = omega arith
     none false = refl
 
-nothing_found : (memory : List ℕ) (bs : List Block) (b : Block) → found_in memory bs [] b ≡ 0
+pub nothing_found : (memory : List ℕ) (bs : List Block) (b : Block) → found_in memory bs [] b ≡ 0
 nothing_found memory bs b = ap (λ n. 0 + n) (none_passed memory (span_of b) bs)
 
 -- a table that is cleared stands for no words

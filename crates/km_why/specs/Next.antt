@@ -1,5 +1,6 @@
 -- What the table of references and the heap of those that wait have to do with lists.
-use Rattle.std.specs.Prelude.{◌≡◌, ℕ, true, false, Bool, List, length, Some, None, find}
+use Rattle.std.specs.Prelude.{◌≡◌, ℕ, ◌≤◌, true, false, Bool, List, [], length, Some, None, find}
+use Rattle.std.specs.BinaryHeap.{IsHeap}
 use Rattle.km_certificates.specs.Certificates.{is_member, may_follow}
 use Rattle.km_model.specs.Blocks.{Block, needs}
 use Rattle.km_model.specs.Members.{Each, In, Pairs}
@@ -9,7 +10,7 @@ use Rattle.km_why.specs.declared.counts.Count.{Count}
 use Rattle.km_why.specs.Counts.{AreCounted}
 use Rattle.km_why.specs.References.{sources}
 use Rattle.km_why.specs.Told.{AreApart, AreLaidOut, blocks_of, stacks_of, standing_of}
-use Rattle.km_why.specs.Waiting.{IsFirst, Key, is_waiting}
+use Rattle.km_why.specs.Waiting.{AreWaiting, IsFirst, Key, first_comes_first, is_waiting}
 
 -- a table stands for the references from the stacks and from these members, which are live blocks, no two of them one,
 -- with all that need no reference among them
@@ -32,3 +33,9 @@ abbrev pub NoneFollows : Type 0
 NoneFollows =
     (t : Tracker) (tasks : List Task) (stacks : Bool) (memory : List ℕ) (members : List Block) (counts : List Count) → StandsFor t tasks stacks memory members counts
     → ((l : Live) → In l t.live → is_waiting counts members l.tracked.block ≡ false) → find (may_follow (standing_of t tasks stacks memory) members) (blocks_of t) ≡ None
+
+-- where a table stands for no words, none waits, so an empty heap has the keys of those that wait
+abbrev pub NoneWaitAtFirst : Type 0
+NoneWaitAtFirst =
+    (memory : List ℕ) (t : Tracker) (counts : List Count) (keys : List Key) (capacity : ℕ) → AreCounted memory (blocks_of t) [] counts → keys ≡ [] → length t.live ≤ capacity
+    → IsHeap first_comes_first keys → AreWaiting t.live counts [] keys 0 capacity
