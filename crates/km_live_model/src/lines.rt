@@ -3,7 +3,7 @@
 use km_base::{Command, Name, Operand, Reg};
 
 /// A command that a thread may hold. Its registers are those of the thread's own task.
-#[derive(Clone, Copy, Debug, PartialEq)]
+#[derive(Clone, Copy)]
 pub enum JobCommand {
     Set { reg: Reg, value: Operand },
     Load { reg: Reg, addr: Operand },
@@ -19,7 +19,7 @@ pub enum JobCommand {
 }
 
 /// A line of a live script that isn't refused by itself.
-#[derive(Clone, Copy, Debug, PartialEq)]
+#[derive(Clone, Copy)]
 pub enum LiveLine {
     Blank,
     Command(Command),

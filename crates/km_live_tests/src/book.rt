@@ -40,30 +40,31 @@ fn act(
     book.act(0, words, act)
 }
 
+/// Whether an act was refused by a journal of so many entries.
+fn is_full(made: Result<Answer, JournalFull>, entries: u64) -> bool {
+    matches!(made, Err(JournalFull(n)) if n == entries)
+}
+
 /// A journal with room for so many entries, and for a halt after them.
 fn filled(rt: &impl Abort, alloc: Global, entries: u64) -> Result<(), NoMemory>
     requires { (1 ≤ entries) × (entries ≤ 4194304) }
 {
     let (mut book, mut words) = opened(alloc, entries)?;
-    let full = Err(JournalFull(entries));
     for n in 0..entries {
         assert!(rt; book.journal().len() as u64 == n, "{n} entries");
-        assert!(rt; act(rt, &mut book, &mut words, Act::Tick(3)) == Ok(Answer::Done));
+        let made = act(rt, &mut book, &mut words, Act::Tick(3));
+        assert!(rt; matches!(made, Ok(Answer::Done)));
     }
-    assert!(rt;
-        act(rt, &mut book, &mut words, Act::Tick(4)) == full,
-        "no room"
-    );
+    let made = act(rt, &mut book, &mut words, Act::Tick(4));
+    assert!(rt; is_full(made, entries), "no room");
     assert!(rt; book.core().now() == 3 * entries, "the moment stays");
-    let halted = Ok(Answer::Refused(Refusal::NoScanRunning));
+    let made = act(rt, &mut book, &mut words, Act::Halt);
     assert!(rt;
-        act(rt, &mut book, &mut words, Act::Halt) == halted,
+        matches!(made, Ok(Answer::Refused(Refusal::NoScanRunning))),
         "room for a halt"
     );
-    assert!(rt;
-        act(rt, &mut book, &mut words, Act::Halt) == full,
-        "for one"
-    );
+    let made = act(rt, &mut book, &mut words, Act::Halt);
+    assert!(rt; is_full(made, entries), "for one");
     assert!(rt; book.journal().len() as u64 == entries + 1, "a last entry");
     assert!(rt;
         book.into_core().events() == entries + 1,
@@ -119,7 +120,7 @@ fn add_entry<R: Wait + Abort>(
     let Ok(answer) = book.act(by, words, Act::Kfree(0)) else {
         panic!(rt; "no room for an entry of {by}")
     };
-    assert!(rt; answer == Answer::Refused(Refusal::NotAllocated));
+    assert!(rt; matches!(answer, Answer::Refused(Refusal::NotAllocated)));
     let length = book.journal().len();
     baton.give(rt, token, book);
     length
