@@ -5,14 +5,9 @@ use Rattle.km_model.specs.Changes.{world_after_act}
 use Rattle.km_model.specs.Grammar.{line_by}
 use Rattle.km_model.specs.Output.{IsOut}
 use Rattle.km_model.specs.Scan.{next}
+use Rattle.km_rows.specs.BusyAndClear.{script, report}
 use Rattle.km_rows.proofs.Played.{is_out}
 
-abbrev script : List ℕ
-script = codes "memory 4096\nscan_area 0xffff888000000000 8\nkmalloc 64\ntick 1000\nwrite scan\nwrite scan\nbegin\nread\nwrite clear\nfinish\nwrite clear\nread\nwrite scan\nread\n"
-
-abbrev report : List ℕ
-report = codes "kmalloc 0xffff888000001000\nkmemleak: 1 new suspected memory leaks (see /sys/kernel/debug/kmemleak)\nrefused: busy with scan 3\nrefused: busy with scan 3\n"
-
-busy_and_clear : IsOut script report
+pub busy_and_clear : IsOut script report
 unfolding digits answer next line_by world_after_act
 busy_and_clear = is_out script report (17 ∷ 9 ∷ 9 ∷ 9 ∷ []) refl

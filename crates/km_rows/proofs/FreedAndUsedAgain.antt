@@ -5,14 +5,9 @@ use Rattle.km_model.specs.Changes.{world_after_act}
 use Rattle.km_model.specs.Grammar.{line_by}
 use Rattle.km_model.specs.Output.{IsOut}
 use Rattle.km_model.specs.Scan.{next}
+use Rattle.km_rows.specs.FreedAndUsedAgain.{script, report}
 use Rattle.km_rows.proofs.Played.{is_out}
 
-abbrev script : List ℕ
-script = codes "memory 4096\nsection data 1\nkmalloc 64\nkmalloc 64\nstore data 0xffff888000002000\ntick 1000\nwrite scan\nstore 0xffff888000002000 0xffff888000002040\nbegin\nstep 513\nkfree 0xffff888000002000\nkmalloc 64\nstep 1\nstore 0xffff888000002000 0\nfinish\nread\n"
-
-abbrev report : List ℕ
-report = codes "kmalloc 0xffff888000002000\nkmalloc 0xffff888000002040\nkmalloc 0xffff888000002000\nkmemleak: 1 new suspected memory leaks (see /sys/kernel/debug/kmemleak)\nunreferenced object 0xffff888000002040 (size 64):\n  allocated at 0 ms, age 1000 ms\n  hex dump (first 32 bytes):\n    00 00 00 00 00 00 00 00 00 00 00 00 00 00 00 00\n    00 00 00 00 00 00 00 00 00 00 00 00 00 00 00 00\n"
-
-freed_and_used_again : IsOut script report
+pub freed_and_used_again : IsOut script report
 unfolding digits answer next line_by world_after_act
 freed_and_used_again = is_out script report (537 ∷ 23 ∷ []) refl

@@ -5,14 +5,9 @@ use Rattle.km_model.specs.Changes.{world_after_act}
 use Rattle.km_model.specs.Grammar.{line_by}
 use Rattle.km_model.specs.Output.{IsOut}
 use Rattle.km_model.specs.Scan.{next}
+use Rattle.km_rows.specs.ListedAfterTheSecondScan.{script, report}
 use Rattle.km_rows.proofs.Played.{is_out}
 
-abbrev script : List ℕ
-script = codes "memory 4096\nkmalloc 64\ntick 1000\nwrite scan\nread\nwrite scan\nread\n"
-
-abbrev report : List ℕ
-report = codes "kmalloc 0xffff888000001000\nkmemleak: 1 new suspected memory leaks (see /sys/kernel/debug/kmemleak)\nunreferenced object 0xffff888000001000 (size 64):\n  allocated at 0 ms, age 1000 ms\n  hex dump (first 32 bytes):\n    00 00 00 00 00 00 00 00 00 00 00 00 00 00 00 00\n    00 00 00 00 00 00 00 00 00 00 00 00 00 00 00 00\n"
-
-listed_after_the_second_scan : IsOut script report
+pub listed_after_the_second_scan : IsOut script report
 unfolding digits answer next line_by world_after_act
 listed_after_the_second_scan = is_out script report (528 ∷ 520 ∷ []) refl

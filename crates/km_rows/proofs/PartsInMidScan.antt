@@ -5,14 +5,9 @@ use Rattle.km_model.specs.Changes.{world_after_act}
 use Rattle.km_model.specs.Grammar.{line_by}
 use Rattle.km_model.specs.Output.{IsOut}
 use Rattle.km_model.specs.Scan.{next}
+use Rattle.km_rows.specs.PartsInMidScan.{script, report}
 use Rattle.km_rows.proofs.Played.{is_out}
 
-abbrev script : List ℕ
-script = codes "memory 4096\nscan_area 0xffff888000000000 8\nbootmem 64\nkmalloc 64\ntick 1000\nwrite scan\nstore 0xffff888000001030 0xffff888000002000\nbegin\nstep 3\nfree_part 0xffff888000001008 8\nfinish\nread\nwrite scan\nread\n"
-
-abbrev report : List ℕ
-report = codes "bootmem 0xffff888000001000\nkmalloc 0xffff888000002000\nkmemleak: 1 new suspected memory leaks (see /sys/kernel/debug/kmemleak)\nunreferenced object 0xffff888000002000 (size 64):\n  allocated at 0 ms, age 1000 ms\n  hex dump (first 32 bytes):\n    00 00 00 00 00 00 00 00 00 00 00 00 00 00 00 00\n    00 00 00 00 00 00 00 00 00 00 00 00 00 00 00 00\n"
-
-parts_in_mid_scan : IsOut script report
+pub parts_in_mid_scan : IsOut script report
 unfolding digits answer next line_by world_after_act
 parts_in_mid_scan = is_out script report (25 ∷ 8 ∷ 16 ∷ []) refl

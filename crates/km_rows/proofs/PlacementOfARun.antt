@@ -5,14 +5,9 @@ use Rattle.km_model.specs.Changes.{world_after_act}
 use Rattle.km_model.specs.Grammar.{line_by}
 use Rattle.km_model.specs.Output.{IsOut}
 use Rattle.km_model.specs.Scan.{next}
+use Rattle.km_rows.specs.PlacementOfARun.{script, report}
 use Rattle.km_rows.proofs.Played.{is_out}
 
-abbrev script : List ℕ
-script = codes "memory 8192\nkmalloc 32768\n"
-
-abbrev report : List ℕ
-report = codes "kmalloc 0xffff888000001000\n"
-
-placement_of_a_run : IsOut script report
+pub placement_of_a_run : IsOut script report
 unfolding digits answer next line_by world_after_act
 placement_of_a_run = is_out script report [] refl

@@ -5,14 +5,9 @@ use Rattle.km_model.specs.Changes.{world_after_act}
 use Rattle.km_model.specs.Grammar.{line_by}
 use Rattle.km_model.specs.Output.{IsOut}
 use Rattle.km_model.specs.Scan.{next}
+use Rattle.km_rows.specs.TooLargeAMemory.{script, report}
 use Rattle.km_rows.proofs.Played.{is_out}
 
-abbrev script : List ℕ
-script = codes "memory 4194816\n"
-
-abbrev report : List ℕ
-report = codes "not a command: line 1, column 8\n"
-
-too_large_a_memory : IsOut script report
+pub too_large_a_memory : IsOut script report
 unfolding digits answer next line_by world_after_act
 too_large_a_memory = is_out script report [] refl
