@@ -13,6 +13,7 @@ ghost use Rattle.km_model.specs.Placement.{head_with, slot_of_area};
 ghost use Rattle.km_state.specs.State.{State, opened, running_of};
 ghost use Rattle.km_state.specs.StateAnswers.{state_answer};
 ghost use Rattle.km_state.specs.StateAfter.{state_after};
+ghost use Rattle.km_vmalloc.specs.Areas.{area_at};
 ghost use Rattle.km_core.specs.Cores.{Stands};
 ghost use Rattle.km_core.specs.Parts.{Touches};
 
@@ -158,6 +159,8 @@ impl<M: ObjectMap> Core<M> {
     pub fn vm_area(&self, start: Addr) -> Option<VmArea>
         ensures slot { (h : History) (s : State) → Stands self.now h s → option_map (λ v. v.slot) result ≡ slot_of_area s.used start.0 }
         ensures head { IfSome result (λ v. (h : History) (s : State) → Stands self.now h s → head_with s.used v.slot ≡ Some v.head.start.0) }
+        ensures live { IfSome result (λ v. area_at self.now.parts.hosts.areas v.slot ≡ Some v) }
+        ensures start { IfSome result (λ v. v.area.start ≡ start) }
     {
         self.kernel.area(start)
     }

@@ -7,6 +7,7 @@ ghost use Rattle.km_model.specs.Answers.{is_uneven as is_uneven_size, part_answe
 ghost use Rattle.km_model.specs.Blocks.{Block, block_with};
 ghost use Rattle.km_model.specs.Headline.{IsMemorySize};
 ghost use Rattle.km_model.specs.Placement.{head_with, slot_of_area};
+ghost use Rattle.km_vmalloc.specs.Areas.{area_at};
 ghost use Rattle.km_core.specs.Kernels.{act_of, answered, done_if, heeded, is_setting};
 ghost use Rattle.km_state.specs.State.{State, blocks_in, opened, running_of};
 ghost use Rattle.km_base.specs.declared.acts.FileCmd.TheVariants as file;
@@ -597,6 +598,8 @@ impl<M: ObjectMap> Kernel<M> {
     pub fn area(&self, start: Addr) -> Option<VmArea>
         ensures slot { (s : State) → StandsAs self.now s → option_map (λ v. v.slot) result ≡ slot_of_area s.used start.0 }
         ensures head { IfSome result (λ v. (s : State) → StandsAs self.now s → head_with s.used v.slot ≡ Some v.head.start.0) }
+        ensures live { IfSome result (λ v. area_at self.now.hosts.areas v.slot ≡ Some v) }
+        ensures start { IfSome result (λ v. v.area.start ≡ start) }
     {
         self.hosts.area(start)
     }
