@@ -8,9 +8,9 @@ use Rattle.km_base.specs.declared.lines.NotACommand.{NotACommand as Refused}
 use Rattle.km_base.specs.declared.status.Status.{Status}
 use Rattle.km_base.specs.declared.status.Status.TheVariants as status
 use Rattle.km_model.specs.Grammar.{rules, line_of}
-use Rattle.km_model.specs.Output.{commands_in, commands_then, end_of_script, limit, lines_of, status_from, status_of, status_then}
+use Rattle.km_model.specs.Output.{commands_in, commands_then, end_of_script, limit, lines_of, status_from, status_of, status_then, lines_within}
 use Rattle.km_edge.specs.Streams.{SourceState, Rose}
-use Rattle.km_reader.specs.Lines.{lines_within, whole_lines}
+use Rattle.km_reader.specs.Lines.{whole_lines}
 use Rattle.km_reader.proofs.Calls.{AllGiven, LimitGiven, NextIs, WholeGiven}
 use Rattle.km_forms.specs.declared.count.Count.{Count}
 use Rattle.km_forms.specs.Counts.{CountsScript, GoesOn, IsRefusal, behind, commands_at, commands_of, first_count, is_fresh, status_at}

@@ -2,3 +2,4 @@ pub mod Limits
 pub mod Counting
 pub mod Going
 pub mod Checked
+pub mod Forms

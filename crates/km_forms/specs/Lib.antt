@@ -2,3 +2,4 @@ pub mod Lines
 pub mod Forms
 pub mod Counts
 pub mod Checks
+pub mod WordByWord

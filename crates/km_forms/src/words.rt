@@ -1,7 +1,8 @@
-//! The words behind the program's name.
+//! The words after the program's name.
 
 ghost use Rattle.std.specs.Prelude.{◌≡◌, ◌≤◌, IfOk, IfSome, map, string_bytes};
-ghost use Rattle.km_forms.specs.Forms.{HasFewSteps, bench_form, form_of_words, named_form, only_form, steps_form};
+ghost use Rattle.km_forms.specs.Forms.{HasFewSteps, form_of_words};
+ghost use Rattle.km_forms.specs.WordByWord.{bench_form, form_by_words, named_form, only_form, steps_form};
 ghost use Rattle.km_model.specs.Grammar.{number as number_of_word, number_within};
 
 use km_base::read_number;
@@ -48,7 +49,7 @@ fn only(form: Form, place: u32, rest: &[String]) -> Result<Form, u32>
     }
 }
 
-/// The words behind `bench` and a number.
+/// The words after `bench` and a number.
 fn steps_words(number: u64, words: &[String]) -> Result<Form, u32>
     ensures form { result ≡ steps_form number (map string_bytes words.now) }
     ensures few { IfOk result HasFewSteps }
@@ -62,7 +63,7 @@ fn steps_words(number: u64, words: &[String]) -> Result<Form, u32>
     }
 }
 
-/// The words behind `bench`.
+/// The words after `bench`.
 fn bench_words(words: &[String]) -> Result<Form, u32>
     ensures form { result ≡ bench_form (map string_bytes words.now) }
     ensures few { IfOk result HasFewSteps }
@@ -90,14 +91,22 @@ fn named(word: &[u8], rest: &[String]) -> Result<Form, u32>
     }
 }
 
-/// What the words behind the program's name ask for: none, `check`, or `bench`, a number and a number of steps
-/// up to 1,000,000. An `Err` is the place, from 1, of the first word that doesn't fit or is missing.
-pub fn form_of(words: &[String]) -> Result<Form, u32>
-    ensures form { result ≡ form_of_words (map string_bytes words.now) }
+/// The form that the words name, word by word.
+fn word_by_word(words: &[String]) -> Result<Form, u32>
+    ensures form { result ≡ form_by_words (map string_bytes words.now) }
     ensures few { IfOk result HasFewSteps }
 {
     match words {
         [] => Ok(Form::Run),
         [word, rest @ ..] => named(word.as_bytes(), rest),
     }
+}
+
+/// What the words after the program's name ask for: none, `check`, or `bench`, a number and a number of steps
+/// up to 1,000,000. An `Err` is the place, from 1, of the first word that doesn't fit or is missing.
+pub fn form_of(words: &[String]) -> Result<Form, u32>
+    ensures form { result ≡ form_of_words (map string_bytes words.now) }
+    ensures few { IfOk result HasFewSteps }
+{
+    word_by_word(words)
 }
