@@ -9,4 +9,5 @@ mod reading;
 mod script;
 
 pub use km_base::Status;
+pub use km_machine::Machine;
 pub use program::run;
