@@ -8,12 +8,12 @@ use Rattle.km_base.specs.declared.lines.NotACommand.{NotACommand as Refused}
 use Rattle.km_base.specs.declared.status.Status.{Status}
 use Rattle.km_base.specs.declared.status.Status.TheVariants as status
 use Rattle.km_model.specs.Grammar.{rules, line_of}
-use Rattle.km_model.specs.Output.{Script, Fresh, Begun, Prints, IsRun, is_fresh, limit, lines_of, end_of_script, status_from, status_then, status_of}
+use Rattle.km_model.specs.Output.{Script, Fresh, Begun, Prints, IsRun, is_fresh, limit, lines_of, end_of_script, status_from, status_then, status_of, lines_within}
 use Rattle.km_model.specs.Text.{not_a_command_text}
 use Rattle.km_edge.specs.Streams.{SourceState, SinkState, Rose, Wrote, StoppedAt}
 use Rattle.km_edge.proofs.Writing.{came_out_more, rose_later, wrote_more, wrote_out}
 use Rattle.km_reader.specs.Causes.{EndsWithin}
-use Rattle.km_reader.specs.Lines.{IsPrefix, lines_within}
+use Rattle.km_reader.specs.Lines.{IsPrefix}
 use Rattle.km_reader.proofs.Calls.{AllGiven, FewAfter, LimitGiven, NextIs, WholeGiven}
 use Rattle.km_forms.specs.Lines.{Refuses}
 use Rattle.km_forms.proofs.Limits.{end_beyond, end_within}

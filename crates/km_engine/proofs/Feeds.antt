@@ -3,10 +3,9 @@ use Rattle.std.proofs.Common.{◌≡◌, ℕ, suc, ◌+◌, ◌*◌, ◌≤◌, 
 use Rattle.std.specs.List.{count_by}
 use Rattle.std.proofs.lemmas.List.Sums.{sum_by-cons}
 use Rattle.km_edge.specs.Lines.{is_line_feed}
-use Rattle.km_model.specs.Output.{all_but_last, between_line_feeds, is_empty, limit, lines_of, put_in_first}
+use Rattle.km_model.specs.Output.{all_but_last, between_line_feeds, is_empty, limit, lines_of, put_in_first, lines_in}
 use Rattle.km_model.specs.Text.{as_text_line}
 use Rattle.km_gen.specs.Generated.{generated_script, opening_lines, closing_lines, steps_text}
-use Rattle.km_reader.specs.Lines.{lines_in}
 use Rattle.km_reader.proofs.Lists.{within_limit}
 
 -- pieces the last of which is empty, with as many others as are counted

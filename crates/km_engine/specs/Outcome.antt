@@ -4,9 +4,9 @@ use Rattle.km_base.specs.declared.lines.Command.TheVariants.{Memory}
 use Rattle.km_base.specs.declared.lines.Line.TheVariants as line
 use Rattle.km_base.specs.declared.status.Status.{Status}
 use Rattle.km_model.specs.Grammar.{line_of}
-use Rattle.km_model.specs.Output.{Script, Fresh, Prints, IsOut, is_empty, limit, lines_of, status_of}
+use Rattle.km_model.specs.Output.{Script, Fresh, Prints, IsOut, is_empty, limit, lines_of, status_of, lines_in}
 use Rattle.km_reader.specs.Causes.{Language}
-use Rattle.km_reader.specs.Lines.{lines_in, whole_lines}
+use Rattle.km_reader.specs.Lines.{whole_lines}
 use Rattle.km_forms.specs.Checks.{cause_of}
 use Rattle.km_forms.specs.Counts.{GoesOn}
 

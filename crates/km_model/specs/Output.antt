@@ -101,10 +101,17 @@ limit = LONGEST_INPUT
 abbrev pub is_unread : List ℕ → Bool
 is_unread l = nat_le (length l) LONGEST_LINE
 
+-- the lines of some bytes, without the piece after the last line feed where that is dropped
+abbrev pub lines_in : (List ℕ → Bool) → List ℕ → List (List ℕ)
+lines_in dropped bytes = all_but_last dropped (between_line_feeds bytes)
+
+-- the lines of an input, as far as it is read under a limit
+abbrev pub lines_within : ℕ → List ℕ → List (List ℕ)
+lines_within most bytes = if nat_le (length bytes) most then lines_in is_empty bytes else lines_in is_unread (take most bytes)
+
 -- the lines of a script, as far as they are read
 abbrev pub lines_of : List ℕ → List (List ℕ)
-lines_of bytes =
-    if nat_le (length bytes) limit then all_but_last is_empty (between_line_feeds bytes) else all_but_last is_unread (between_line_feeds (take limit bytes))
+lines_of bytes = lines_within limit bytes
 
 -- how a script ends by a line, as it was read, and by the lines behind it; `first`: no command was read yet, `n`: the line's number
 abbrev pub status_then : Bool → ℕ → Result Line NotACommand → (Bool → Status) → Status

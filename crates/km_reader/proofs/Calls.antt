@@ -2,11 +2,11 @@
 use Rattle.std.proofs.Common.{◌≡◌, ℕ, ◌+◌, ◌-◌, ◌<◌, ◌≤◌, false, true, List, [], ◌∷◌, ◌++◌, length, take, drop, refl, ap, sym, subst, ◌∙◌, arith, append_assoc, length-append, length-drop}
 use Rattle.std.proofs.lemmas.List.{append-nil, length-take}
 use Rattle.std.specs.Io.KnownBytes.{Consumes, IsAtEnd}
-use Rattle.km_model.specs.Output.{is_empty}
+use Rattle.km_model.specs.Output.{is_empty, lines_in, lines_within}
 use Rattle.km_edge.specs.Streams.{SourceState, Rose}
 use Rattle.km_edge.specs.Lines.{Whole, TooLong, Unknown, next_of}
 use Rattle.km_reader.specs.declared.reader.Next.TheVariants as next
-use Rattle.km_reader.specs.Lines.{lines_in, lines_within, whole_lines, IsLeft}
+use Rattle.km_reader.specs.Lines.{whole_lines, IsLeft}
 use Rattle.km_reader.specs.Lists.{Gave}
 use Rattle.km_reader.specs.Reading.{Input, Is, IsReady, Step, Went, line_in, rest_in, unread}
 use Rattle.km_reader.proofs.Sources.{at_end}

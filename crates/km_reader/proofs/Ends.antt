@@ -3,10 +3,10 @@ use Rattle.std.proofs.Common.{◌≡◌, ℕ, ◌+◌, ◌-◌, ◌<◌, ◌≤�
 use Rattle.std.proofs.lemmas.Bool.Decides.{nat_tests}
 use Rattle.std.proofs.lemmas.List.{append-nil, length-take, take-append-drop}
 use Rattle.std.proofs.Math.Seq.{take-append_seam}
-use Rattle.km_model.specs.Output.{all_but_last, is_empty, is_unread, limit, lines_of}
+use Rattle.km_model.specs.Output.{all_but_last, is_empty, is_unread, lines_in, lines_within}
 use Rattle.km_edge.specs.Streams.{SourceState}
 use Rattle.km_edge.specs.Lines.{TooLong, Unknown, next_of}
-use Rattle.km_reader.specs.Lines.{lines_in, lines_within, KeepsLong}
+use Rattle.km_reader.specs.Lines.{KeepsLong}
 use Rattle.km_reader.specs.Lists.{Gave}
 use Rattle.km_reader.proofs.LineLists.{NoFeed, held_long, held_more, front_of_piece, one_piece}
 use Rattle.km_reader.proofs.Lists.{split_at}
@@ -87,7 +87,3 @@ gave_long s0 s held total limit lines g remaining w =
       ap (lines_within limit) whole ∙ split.3 ∙ ap (lines_in split.0) (append_assoc g.prefix held split.1) ∙ g.cut split.0 (held ++ split.1) ∙ ap (λ ls. lines ++ ls) line.2,
       line.3,
     )
-
--- the lines of a script are those within its limit
-pub lines_as_told : (bytes : List ℕ) → lines_of bytes ≡ lines_within limit bytes
-lines_as_told bytes = refl

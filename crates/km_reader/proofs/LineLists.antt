@@ -4,10 +4,9 @@ use Rattle.std.specs.List.{position_or_len}
 use Rattle.std.proofs.lemmas.Bool.Decides.{nat_tests}
 use Rattle.std.proofs.lemmas.List.Quantifiers.{position-Some}
 use Rattle.std.proofs.lemmas.List.{get_or-take, length-take, take_all}
-use Rattle.km_model.specs.Output.{between_line_feeds, put_in_first, all_but_last}
+use Rattle.km_model.specs.Output.{between_line_feeds, put_in_first, all_but_last, lines_in}
 use Rattle.km_edge.specs.Lines.{Whole, TooLong, Unknown, is_line_feed, next_at, next_of}
 use Rattle.km_edge.specs.Lines.{is_empty as holds_none}
-use Rattle.km_reader.specs.Lines.{lines_in}
 
 -- no byte is a line feed
 pub data NoFeed : List ℕ → Type 0 where

@@ -5,11 +5,11 @@ use Rattle.std.proofs.lemmas.Bool.Decides.{nat_tests}
 use Rattle.std.proofs.lemmas.List.{append-nil}
 use Rattle.std.proofs.Math.Seq.{take-append-add}
 use Rattle.std.specs.Io.KnownBytes.{Consumes, IsAtEnd}
-use Rattle.km_model.specs.Output.{all_but_last, is_empty, is_unread}
+use Rattle.km_model.specs.Output.{all_but_last, is_empty, is_unread, lines_in, lines_within}
 use Rattle.km_edge.specs.Streams.{SourceState}
 use Rattle.km_edge.specs.Lines.{Next, Whole, Unknown, next_of}
 use Rattle.km_edge.specs.Lines.{is_empty as holds_none}
-use Rattle.km_reader.specs.Lines.{lines_in, lines_within, IsLeft, KeepsLong}
+use Rattle.km_reader.specs.Lines.{IsLeft, KeepsLong}
 use Rattle.km_reader.specs.Reading.{Went}
 use Rattle.km_reader.specs.Lists.{Gave}
 use Rattle.km_reader.proofs.LineLists.{NoFeed, held_line, held_more, lines_cons, feed_within, one_piece}

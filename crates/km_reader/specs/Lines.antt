@@ -1,10 +1,7 @@
 -- The lines of an input, as far as it is read.
-use Rattle.std.specs.Prelude.{◌≡◌, ℕ, ◌<◌, Bool, false, nat_le, List, [], ◌++◌, length, take, Option, Some, None, if◌then◌else◌}
-use Rattle.km_model.specs.Output.{between_line_feeds, all_but_last, is_empty, is_unread}
-
--- the lines of some bytes, without the piece after the last line feed where that is dropped
-abbrev pub lines_in : (List ℕ → Bool) → List ℕ → List (List ℕ)
-lines_in dropped bytes = all_but_last dropped (between_line_feeds bytes)
+use Rattle.std.specs.Prelude.{◌≡◌, ℕ, ◌<◌, Bool, false, List, ◌++◌, length, Option, Some, None, []}
+use Rattle.km_base.specs.declared.sizes.TheConstants.{LONGEST_LINE}
+use Rattle.km_model.specs.Output.{is_unread, lines_in}
 
 -- the lines that are known to be lines whatever comes after these bytes: the whole ones, and one that is too long
 abbrev pub whole_lines : List ℕ → List (List ℕ)
@@ -12,11 +9,7 @@ whole_lines bytes = lines_in is_unread bytes
 
 -- a test that drops no line that is too long
 abbrev pub KeepsLong : (List ℕ → Bool) → Type 0
-KeepsLong dropped = (l : List ℕ) → 256 < length l → dropped l ≡ false
-
--- the lines of an input, as far as it is read under a limit
-abbrev pub lines_within : ℕ → List ℕ → List (List ℕ)
-lines_within limit bytes = if nat_le (length bytes) limit then lines_in is_empty bytes else lines_in is_unread (take limit bytes)
+KeepsLong dropped = (l : List ℕ) → LONGEST_LINE < length l → dropped l ≡ false
 
 -- a list begins with these
 abbrev pub IsPrefix : List ℕ → List ℕ → Type 0
