@@ -1,5 +1,6 @@
 -- A journal file: the text of a history, and the first line that a check refuses.
 use Rattle.std.specs.Prelude.{◌≡◌, ℕ, ◌+◌, ◌%◌, ◌^◌, ◌≤◌, Bool, true, false, ◌&&◌, nat_le, nat_lt, ◌==◌, List, [], ◌∷◌, ◌++◌, map, flat_map, length, take, count_by, Some, None, codes, decimal, if◌then◌else◌}
+use Rattle.km_base.specs.declared.sizes.TheConstants.{LONGEST_LINE, MOST_WORDS, PAGE_WORDS}
 use Rattle.km_base.specs.declared.acts.Act.{Act}
 use Rattle.km_base.specs.declared.acts.Act.TheVariants as act
 use Rattle.km_base.specs.declared.acts.Answer.{Answer}
@@ -93,7 +94,7 @@ right_if holds after = if holds then Right after else IsWrong
 
 -- whether a memory can have so many words
 abbrev pub is_memory_size : ℕ → Bool
-is_memory_size words = words % 512 == 0 && nat_le 512 words && nat_le words 4194304
+is_memory_size words = words % PAGE_WORDS == 0 && nat_le PAGE_WORDS words && nat_le words MOST_WORDS
 
 -- the value that a line gives for a load, or 0
 abbrev pub told_in : Said → ℕ
@@ -182,7 +183,7 @@ at_end n c [] = if is_over c then check.Ok else check.Cut
 
 -- where the input goes on after the limit: a piece that is too long for a line is none
 abbrev pub at_limit : ℕ → Checked → List ℕ → CheckStatus
-at_limit n c rest = if nat_le (length rest) 256 then check.TooLong else check.NotALine n
+at_limit n c rest = if nat_le (length rest) LONGEST_LINE then check.TooLong else check.NotALine n
 
 -- the most bytes of a journal file
 abbrev pub limit : ℕ

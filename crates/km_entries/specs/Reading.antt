@@ -1,5 +1,6 @@
 -- A line of a journal file read back.
 use Rattle.std.specs.Prelude.{ℕ, ◌==◌, true, false, List, [], ◌∷◌, drop, find, Option, Some, None, option_map, option_and_then, bytes_eq, codes, nat_lt, length, if◌then◌else◌}
+use Rattle.km_base.specs.declared.sizes.TheConstants.{LONGEST_LINE}
 use Rattle.km_base.specs.declared.acts.Reg.{Reg}
 use Rattle.km_base.specs.declared.acts.Reg.TheVariants.{R0, R1, R2, R3}
 use Rattle.km_base.specs.declared.acts.FileCmd.{FileCmd}
@@ -207,4 +208,4 @@ line_by_words (w ∷ ws) = line_by_word w ws
 
 -- a line without its line feed, of at most 256 bytes; `None` where it is of no form
 unfoldable pub journal_line : List ℕ → Option JournalLine
-journal_line bytes = if nat_lt 256 (length bytes) then None else line_by_words (words_in bytes)
+journal_line bytes = if nat_lt LONGEST_LINE (length bytes) then None else line_by_words (words_in bytes)

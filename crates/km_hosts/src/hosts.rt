@@ -3,6 +3,7 @@
 ghost use Rattle.std.specs.Prelude.{◌≡◌, ◌+◌, ◌*◌, ◌<◌, ◌≤◌, ◌^◌, ℕ, List, ◌∷◌, [], ◌++◌, length, Option, Some, None, true, false, not, is_some, is_none, option_map, IfErr, IfOk, IfSome, OnErr};
 ghost use Rattle.std.specs.Result.{result_ok};
 ghost use Rattle.std.specs.List.{list_any};
+ghost use Rattle.km_base.specs.declared.sizes.TheConstants.{PAGE};
 ghost use Rattle.km_base.specs.declared.acts.Answer.TheVariants.{Done};
 ghost use Rattle.km_base.specs.declared.acts.Refusal.TheVariants as refusal;
 ghost use Rattle.km_model.specs.Memory.{base};
@@ -81,7 +82,7 @@ impl Hosts {
         ensures answer { (used : List Allocation) → Hold self.old used → done result ≡ section_answer used name words (run_place (words_in self.old) used (pages_for (8 * words))) }
         ensures start { IfOk result (λ s. (used : List Allocation) → Hold self.old used → s.start.0 ≡ page_start (lowest_run used (pages_for (8 * words)))) }
         ensures size { IfOk result (λ s. s.size ≡ 8 * words) }
-        ensures held { IfOk result (λ s. (used : List Allocation) → Hold self.old used → Hold self.new (with_use used (SectionRun name) s.start.0 (4096 * pages_for (8 * words)))) }
+        ensures held { IfOk result (λ s. (used : List Allocation) → Hold self.old used → Hold self.new (with_use used (SectionRun name) s.start.0 (PAGE * pages_for (8 * words)))) }
         ensures roll { self.new.roll ≡ self.old.roll }
         ensures refused { OnErr result (self.new ≡ self.old) }
         ensures pages { length self.new.pages ≡ length self.old.pages }
@@ -109,7 +110,7 @@ impl Hosts {
         ensures answer { (used : List Allocation) → Hold self.old used → done result ≡ start_answer self.old.roll.tasks name (run_place (words_in self.old) used 1) }
         ensures roll { IfOk result (λ _. (used : List Allocation) → Hold self.old used → self.new.roll ≡ with_task self.old.roll name (page_start (lowest_run used 1))) }
         ensures started { IfOk result (λ _. self.new.roll.started ≡ self.old.roll.started + 1) }
-        ensures held { IfOk result (λ _. (used : List Allocation) → Hold self.old used → Hold self.new (with_use used StackPage (page_start (lowest_run used 1)) 4096)) }
+        ensures held { IfOk result (λ _. (used : List Allocation) → Hold self.old used → Hold self.new (with_use used StackPage (page_start (lowest_run used 1)) PAGE)) }
         ensures refused { OnErr result (self.new ≡ self.old) }
         ensures pages { length self.new.pages ≡ length self.old.pages }
     {
@@ -180,7 +181,7 @@ impl Hosts {
     /// Takes a run of untracked pages.
     pub fn take_pages(&mut self, count: u64) -> Result<Addr, Refusal>
         ensures answer { (used : List Allocation) → Hold self.old used → at result ≡ pages_answer (words_in self.old) used count }
-        ensures held { IfOk result (λ a. (used : List Allocation) → Hold self.old used → Hold self.new (with_use used PlainRun a.0 (4096 * count))) }
+        ensures held { IfOk result (λ a. (used : List Allocation) → Hold self.old used → Hold self.new (with_use used PlainRun a.0 (PAGE * count))) }
         ensures roll { self.new.roll ≡ self.old.roll }
         ensures refused { OnErr result (self.new ≡ self.old) }
         ensures pages { length self.new.pages ≡ length self.old.pages }
@@ -213,8 +214,8 @@ impl Hosts {
         ensures answer { (used : List Allocation) → Hold self.old used → at_area result ≡ vmalloc_answer (words_in self.old) used size }
         ensures head { IfOk result (λ v. (used : List Allocation) → Hold self.old used → v.head.start.0 ≡ lowest_slab used 64) }
         ensures slot { IfOk result (λ v. (used : List Allocation) → Hold self.old used → v.slot ≡ lowest_slot used) }
-        ensures sizes { IfOk result (λ v. (v.head.size ≡ 64) × (v.area.size ≡ 4096 * pages_for size)) }
-        ensures held { IfOk result (λ v. (used : List Allocation) → Hold self.old used → Hold self.new (with_use (with_use used (HeadBlock v.slot) v.head.start.0 64) (AreaRun v.slot) v.area.start.0 (4096 * pages_for size))) }
+        ensures sizes { IfOk result (λ v. (v.head.size ≡ 64) × (v.area.size ≡ PAGE * pages_for size)) }
+        ensures held { IfOk result (λ v. (used : List Allocation) → Hold self.old used → Hold self.new (with_use (with_use used (HeadBlock v.slot) v.head.start.0 64) (AreaRun v.slot) v.area.start.0 (PAGE * pages_for size))) }
         ensures roll { self.new.roll ≡ self.old.roll }
         ensures refused { OnErr result (self.new ≡ self.old) }
         ensures pages { length self.new.pages ≡ length self.old.pages }
@@ -246,7 +247,7 @@ impl Hosts {
     /// Takes boot memory of so many bytes, in whole pages. It is never given back.
     pub fn take_boot(&mut self, size: u64) -> Result<Addr, Refusal>
         ensures answer { (used : List Allocation) → Hold self.old used → at result ≡ boot_answer (words_in self.old) used size }
-        ensures held { IfOk result (λ a. (used : List Allocation) → Hold self.old used → Hold self.new (with_use used BootRun a.0 (4096 * pages_for size))) }
+        ensures held { IfOk result (λ a. (used : List Allocation) → Hold self.old used → Hold self.new (with_use used BootRun a.0 (PAGE * pages_for size))) }
         ensures roll { self.new.roll ≡ self.old.roll }
         ensures refused { OnErr result (self.new ≡ self.old) }
         ensures pages { length self.new.pages ≡ length self.old.pages }

@@ -3,6 +3,7 @@
 ghost use Rattle.std.specs.Prelude.{◌≡◌, ◌+◌, ◌*◌, ◌<◌, ◌≤◌, ◌^◌, ◌==◌, ◌&&◌, IsTrue, ℕ, List, ◌∷◌, [], ◌++◌, length, replicate, Some, None, Ok, IfOk, OnErr, IfSome, true, false, Option, ◌↔◌, ◌⊎◌, is_ok, option_map, if◌then◌else◌};
 ghost use Rattle.std.specs.Result.{result_ok};
 ghost use Rattle.std.specs.List.{All, list_any};
+ghost use Rattle.km_base.specs.declared.sizes.TheConstants.{PAGE, PAGE_WORDS};
 ghost use Rattle.km_model.specs.Memory.{base};
 ghost use Rattle.km_model.specs.Placement.{Allocation, page_start, page_of, lowest_run, run_place, without_allocation};
 ghost use Rattle.km_model.specs.Answers.{is_boot_with, is_plain_at};
@@ -147,13 +148,13 @@ impl Pages {
     pub fn take(&mut self, n: u32, kind: Use) -> Result<Addr, NoRoom>
         requires { 0 < n }
         ensures place { address_of result ≡ place self.old n }
-        ensures place_among { (used : List Allocation) → AreLaid self.old used → address_of result ≡ run_place (512 * length self.old) used n }
+        ensures place_among { (used : List Allocation) → AreLaid self.old used → address_of result ≡ run_place (PAGE_WORDS * length self.old) used n }
         ensures taken { IfOk result (λ a. self.new ≡ taken self.old kind a.0 n) }
         ensures lowest { IfOk result (λ a. a.0 ≡ page_start (lowest_free self.old n)) }
         ensures lowest_among { IfOk result (λ a. (used : List Allocation) → AreLaid self.old used → a.0 ≡ page_start (lowest_run used n)) }
         ensures fresh { IfOk result (λ a. (any : Use) → run_at self.old any a.0 ≡ None) }
-        ensures apart { IfOk result (λ a. (used : List Allocation) → AreLaid self.old used → All (λ (x : Allocation). (x.start + x.size ≤ a.0) ⊎ (a.0 + 4096 * n ≤ x.start)) used) }
-        ensures inside { IfOk result (λ a. a.0 + 4096 * n ≤ base + 4096 * length self.old) }
+        ensures apart { IfOk result (λ a. (used : List Allocation) → AreLaid self.old used → All (λ (x : Allocation). (x.start + x.size ≤ a.0) ⊎ (a.0 + PAGE * n ≤ x.start)) used) }
+        ensures inside { IfOk result (λ a. a.0 + PAGE * n ≤ base + PAGE * length self.old) }
         ensures refused { OnErr result (self.new ≡ self.old) }
         ensures size { length self.new ≡ length self.old }
         ensures runs { IfOk result (λ a. (p : ℕ) → run_from self.new kind p ≡ (if p == page_of a.0 then Some n else run_from self.old kind p)) }
@@ -196,7 +197,7 @@ impl Pages {
     /// What the page of an address is used for, if it is.
     pub fn run_at(&self, a: Addr) -> Option<Use>
         requires memory { base ≤ a.0 }
-        requires inside { a.0 < base + 4096 * length self.now }
+        requires inside { a.0 < base + PAGE * length self.now }
         ensures use_there { result ≡ option_map (λ r. r.kind) (run_with self.now (page_of a.0)) }
         ensures boot { (used : List Allocation) → AreLaid self.now used → (list_any (is_boot_with a.0) used ≡ true) ↔ (result ≡ Some Boot) }
     {

@@ -2,6 +2,7 @@
 use Rattle.std.specs.Prelude.{◌≡◌, ℕ, ◌+◌, ◌-◌, ◌≤◌, Bool, List, ◌++◌, length}
 use Rattle.std.specs.Io.KnownBytes.{Consumes}
 use Rattle.km_edge.specs.Streams.{SourceState}
+use Rattle.km_model.specs.Output.{lines_in}
 
 -- these lines were given, whatever comes after what was taken, and these bytes are held
 pub record Gave (s0 s : SourceState) (held : List ℕ) (total limit : ℕ) (lines : List (List ℕ)) : Type 0 where

@@ -3,6 +3,7 @@
 
 ghost use Rattle.std.specs.Prelude.{◌≡◌, ℕ, ◌+◌, ◌^◌, ◌<◌, Bool, None, Some, Option, List, map, true};
 ghost use Rattle.std.specs.List.{All};
+ghost use Rattle.km_base.specs.declared.sizes.TheConstants.{PAGE};
 ghost use Rattle.km_base.specs.declared.acts.Reg.{Reg};
 ghost use Rattle.km_base.specs.declared.spans.Span.{Span};
 ghost use Rattle.km_model.specs.Past.{Place};
@@ -39,7 +40,7 @@ pub fn changed_fits()
 
 /// So do the start and the end of a task, and a register that is set.
 pub fn tasks_fit()
-    ensures start { (s : Stand) (t : Tracker) (roll : Roll) (name : List ℕ) (stack : ℕ) → stack + 4096 < 2 ^ 64 → IsSettled s → Fits s t roll → Fits s t (with_task roll name stack) }
+    ensures start { (s : Stand) (t : Tracker) (roll : Roll) (name : List ℕ) (stack : ℕ) → stack + PAGE < 2 ^ 64 → IsSettled s → Fits s t roll → Fits s t (with_task roll name stack) }
     ensures exit { (s : Stand) (t : Tracker) (roll : Roll) (name : List ℕ) → IsSettled s → Fits s t roll → Fits s t (without roll name) }
     ensures register { (s : Stand) (t : Tracker) (roll : Roll) (name : List ℕ) (reg : Reg) (value : ℕ) → IsSettled s → Fits s t roll → Fits s t (with_value roll name reg value) }
 {}

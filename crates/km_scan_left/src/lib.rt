@@ -2,6 +2,7 @@
 #![tactic(auto)]
 
 ghost use Rattle.std.specs.Prelude.{◌≡◌, ℕ, ◌+◌, ◌*◌, ◌≤◌, Bool, List, [], length, None, Some, option_map};
+ghost use Rattle.km_base.specs.declared.sizes.TheConstants.{PAGE};
 ghost use Rattle.km_base.specs.declared.acts.Reg.{Reg};
 ghost use Rattle.km_laws.specs.Left.{total};
 ghost use Rattle.km_model.specs.Blocks.{Block};
@@ -37,7 +38,7 @@ pub fn steps_lower()
 /// What is left is bounded, where the live blocks and the stacks have room in a memory of so many words. Those that
 /// stand after a history have; neither a move nor a load that is told changes them, so that holds between the two as well.
 pub fn left_is_bounded()
-    ensures room { (words : ℕ) (s : Stand) (t : Tracker) (roll : Roll) → total (λ b. b.size) (blocks_in (tracked_in t)) + 4096 * length roll.tasks ≤ 8 * words → scanner_left s t roll ≤ 2 * words + 2 * length t.live + 5 }
+    ensures room { (words : ℕ) (s : Stand) (t : Tracker) (roll : Roll) → total (λ b. b.size) (blocks_in (tracked_in t)) + PAGE * length roll.tasks ≤ 8 * words → scanner_left s t roll ≤ 2 * words + 2 * length t.live + 5 }
     ensures stands { (words : ℕ) (h : History) (s : Stand) (t : Tracker) (roll : Roll) → IsMemorySize words → Follows words h → blocks_in (tracked_in t) ≡ (world (past_of h)).blocks → roll.tasks ≡ (world (past_of h)).tasks → scanner_left s t roll ≤ 2 * words + 2 * length t.live + 5 }
 {}
 

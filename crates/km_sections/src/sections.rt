@@ -3,6 +3,7 @@
 ghost use Rattle.std.specs.Prelude.{◌≡◌, ◌+◌, ◌*◌, ◌<◌, ◌≤◌, ◌==◌, ℕ, List, ◌∷◌, [], ◌++◌, length, map, Some, None, IfOk, OnErr, option_map, codes, bytes_eq, true, false, is_some};
 ghost use Rattle.std.specs.List.{All};
 ghost use Rattle.std.specs.Result.{result_ok};
+ghost use Rattle.km_base.specs.declared.sizes.TheConstants.{PAGE_WORDS};
 ghost use Rattle.km_base.specs.declared.spans.Span.{Span};
 ghost use Rattle.km_model.specs.Placement.{Allocation, lowest_run, page_start, pages_for, run_place};
 ghost use Rattle.km_model.specs.World.{is_given, section_named};
@@ -130,7 +131,7 @@ impl Sections {
         ensures pages_stay { OnErr result (pages.new ≡ pages.old) }
         ensures pages_count { length pages.new ≡ length pages.old }
         ensures others { (other : Use) (p : ℕ) → same_use Section other ≡ false → run_from pages.new other p ≡ run_from pages.old other p }
-        ensures answer_among { (used : List Allocation) → AreLaid pages.old used → AreSections self.old used → answer_of result ≡ section_answer used name words (run_place (512 * length pages.old) used (pages_for (8 * words))) }
+        ensures answer_among { (used : List Allocation) → AreLaid pages.old used → AreSections self.old used → answer_of result ≡ section_answer used name words (run_place (PAGE_WORDS * length pages.old) used (pages_for (8 * words))) }
         ensures start_among { IfOk result (λ s. (used : List Allocation) → AreLaid pages.old used → s.start.0 ≡ page_start (lowest_run used (pages_for (8 * words)))) }
         ensures apart { IfOk result (λ s. (used : List Allocation) → AreLaid pages.old used → All (λ (x : Allocation). IsBeside x (section name words s.start.0)) used) }
         ensures laid { IfOk result (λ s. (used : List Allocation) → AreLaid pages.old used → AreLaid pages.new (used ++ section name words s.start.0 ∷ [])) }

@@ -2,6 +2,7 @@
 
 ghost use Rattle.std.specs.Prelude.{◌≡◌, ◌+◌, ◌*◌, ◌<◌, ◌≤◌, ◌⊎◌, ℕ, List, ◌∷◌, [], ◌++◌, length, replicate, Option, None, true, false, IfOk, OnErr, is_ok, nat_le};
 ghost use Rattle.std.specs.List.{All, list_any};
+ghost use Rattle.km_base.specs.declared.sizes.TheConstants.{PAGE, PAGE_WORDS};
 ghost use Rattle.km_model.specs.Placement.{Allocation, class_of, is_slab_block, kmalloc_span, lowest_slab, without_allocation};
 ghost use Rattle.km_pages.specs.declared.runs.Run.{Run};
 ghost use Rattle.km_pages.specs.declared.runs.Use as kinds;
@@ -69,19 +70,19 @@ impl Slab {
     /// Allocates a block: a slot of a slab page up to 4096 bytes, whole pages above.
     pub fn kmalloc(&mut self, pages: &mut Pages, size: u64) -> Result<Span, SlabFault>
         requires { Fits self.old pages.old }
-        ensures answer { (used : List Allocation) → AreLaid pages.old used → AreBlocks self.old used → answer_of result ≡ kmalloc_answer (512 * length pages.old) used size }
-        ensures lowest { IfOk result (λ s. (used : List Allocation) → AreLaid pages.old used → AreBlocks self.old used → nat_le size 4096 ≡ true → s.start.0 ≡ lowest_slab used (class_of size)) }
+        ensures answer { (used : List Allocation) → AreLaid pages.old used → AreBlocks self.old used → answer_of result ≡ kmalloc_answer (PAGE_WORDS * length pages.old) used size }
+        ensures lowest { IfOk result (λ s. (used : List Allocation) → AreLaid pages.old used → AreBlocks self.old used → nat_le size PAGE ≡ true → s.start.0 ≡ lowest_slab used (class_of size)) }
         ensures span { IfOk result (λ s. s.size ≡ kmalloc_span size) }
         ensures apart { IfOk result (λ s. (used : List Allocation) → AreLaid pages.old used → AreBlocks self.old used → All (λ (x : Allocation). (x.start + x.size ≤ s.start.0) ⊎ (s.start.0 + s.size ≤ x.start)) used) }
-        ensures gains { IfOk result (λ s. nat_le size 4096 ≡ true → Gains self.old self.new s.size s.start.0) }
-        ensures takes { IfOk result (λ s. nat_le size 4096 ≡ true → Takes self.old self.new pages.old pages.new s.size s.start.0) }
-        ensures large { nat_le size 4096 ≡ false → self.new ≡ self.old }
+        ensures gains { IfOk result (λ s. nat_le size PAGE ≡ true → Gains self.old self.new s.size s.start.0) }
+        ensures takes { IfOk result (λ s. nat_le size PAGE ≡ true → Takes self.old self.new pages.old pages.new s.size s.start.0) }
+        ensures large { nat_le size PAGE ≡ false → self.new ≡ self.old }
         ensures still { (n b : ℕ) → IsSlot self.old n b → IsSlot self.new n b }
         ensures refused { OnErr result (self.new ≡ self.old) }
         ensures pages_stay { OnErr result (pages.new ≡ pages.old) }
         ensures pages_count { length pages.new ≡ length pages.old }
         ensures others { (other : kinds.Use) (p : ℕ) → same_use slab_use other ≡ false → same_use large_use other ≡ false → run_from pages.new other p ≡ run_from pages.old other p }
-        ensures small { nat_le size 4096 ≡ true → (other : kinds.Use) (p : ℕ) → same_use slab_use other ≡ false → run_from pages.new other p ≡ run_from pages.old other p }
+        ensures small { nat_le size PAGE ≡ true → (other : kinds.Use) (p : ℕ) → same_use slab_use other ≡ false → run_from pages.new other p ≡ run_from pages.old other p }
         ensures fits { Fits self.new pages.new }
         ensures laid { IfOk result (λ s. (used : List Allocation) (x : Allocation) → AreLaid pages.old used → IsBlock size s.start.0 x → AreLaid pages.new (used ++ x ∷ [])) }
         ensures blocks { IfOk result (λ s. (used : List Allocation) (x : Allocation) → AreBlocks self.old used → IsBlock size s.start.0 x → AreBlocks self.new (used ++ x ∷ [])) }

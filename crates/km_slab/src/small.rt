@@ -3,6 +3,7 @@
 ghost use Rattle.std.specs.Prelude.{◌≡◌, ◌+◌, ◌*◌, ◌/◌, ◌<◌, ◌≤◌, ◌^◌, ◌==◌, ◌||◌, ◌⊎◌, ℕ, List, ◌∷◌, [], ◌++◌, length, slice_index_or, slice_set, Option, Some, None, true, false, IfOk, OnErr, if◌then◌else◌};
 ghost use Rattle.std.specs.List.{All};
 ghost use Rattle.km_marks.specs.Sets.{has, with_mark};
+ghost use Rattle.km_base.specs.declared.sizes.TheConstants.{PAGE, PAGE_WORDS};
 ghost use Rattle.km_model.specs.Placement.{Allocation, free_slot, is_slab_block, lowest_run, lowest_slab, page_start, run_place, slab_place, without_allocation};
 ghost use Rattle.km_pages.specs.declared.runs.Run.{Run};
 ghost use Rattle.km_pages.specs.declared.runs.Use as kinds;
@@ -23,8 +24,8 @@ use km_pages::{NoRoom, Pages, Use};
 /// Where a slot lies.
 fn span_of(page: usize, class: u32, slot: usize) -> Span
     requires page { page < 2 ^ 32 }
-    requires class { class ≤ 4096 }
-    requires slot { slot < 512 }
+    requires class { class ≤ PAGE }
+    requires slot { slot < PAGE_WORDS }
     ensures start { result.start.0 ≡ page_start page + class * slot }
     ensures size { result.size ≡ class }
 {
@@ -43,9 +44,9 @@ fn take_lowest(table: &mut Table, page: usize, class: u32) -> usize
     ensures marks { IsKept table.new }
     ensures classes { table.new.classes.items ≡ table.old.classes.items }
     ensures slot { IsFreeAt (sheets table.old) class page result }
-    ensures small { result < 512 }
-    ensures live { (j : ℕ) → has table.new.live j ≡ (j == 512 * page + result || has table.old.live j) }
-    ensures marked { table.new.live ≡ with_mark table.old.live (512 * page + result) }
+    ensures small { result < PAGE_WORDS }
+    ensures live { (j : ℕ) → has table.new.live j ≡ (j == PAGE_WORDS * page + result || has table.old.live j) }
+    ensures marked { table.new.live ≡ with_mark table.old.live (PAGE_WORDS * page + result) }
 {
     let slot = lowest_slot(table, page, class);
     take_slot(table, page, class, slot);
@@ -80,7 +81,7 @@ pub fn take_new(table: &mut Table, pages: &mut Pages, class: u32) -> Result<Span
     requires fits { Fits (sheets table.old) pages.old }
     ensures marks { IsKept table.new }
     ensures size { IfOk result (λ s. s.size ≡ class) }
-    ensures place { (used : List Allocation) → AreLaid pages.old used → start_of result ≡ run_place (512 * length pages.old) used 1 }
+    ensures place { (used : List Allocation) → AreLaid pages.old used → start_of result ≡ run_place (PAGE_WORDS * length pages.old) used 1 }
     ensures lowest { IfOk result (λ s. (used : List Allocation) → AreLaid pages.old used → s.start.0 ≡ page_start (lowest_run used 1)) }
     ensures apart { IfOk result (λ s. (used : List Allocation) → AreLaid pages.old used → All (λ (x : Allocation). (x.start + x.size ≤ s.start.0) ⊎ (s.start.0 + s.size ≤ x.start)) used) }
     ensures gains { IfOk result (λ s. Gains (sheets table.old) (sheets table.new) class s.start.0) }
@@ -111,7 +112,7 @@ pub fn take_small(table: &mut Table, pages: &mut Pages, class: u32) -> Result<Sp
     requires fits { Fits (sheets table.old) pages.old }
     ensures marks { IsKept table.new }
     ensures size { IfOk result (λ s. s.size ≡ class) }
-    ensures place { (used : List Allocation) → AreLaid pages.old used → AreBlocks (sheets table.old) used → start_of result ≡ slab_place (512 * length pages.old) used class }
+    ensures place { (used : List Allocation) → AreLaid pages.old used → AreBlocks (sheets table.old) used → start_of result ≡ slab_place (PAGE_WORDS * length pages.old) used class }
     ensures lowest { IfOk result (λ s. (used : List Allocation) → AreLaid pages.old used → AreBlocks (sheets table.old) used → s.start.0 ≡ lowest_slab used class) }
     ensures apart { IfOk result (λ s. (used : List Allocation) → AreLaid pages.old used → AreBlocks (sheets table.old) used → All (λ (x : Allocation). (x.start + x.size ≤ s.start.0) ⊎ (s.start.0 + s.size ≤ x.start)) used) }
     ensures gains { IfOk result (λ s. Gains (sheets table.old) (sheets table.new) class s.start.0) }
@@ -136,7 +137,7 @@ fn give_page(table: &mut Table, pages: &mut Pages, page: usize, class: u32)
     requires marks { IsKept table.old }
     requires page { page < length table.old.classes.items }
     requires class { slice_index_or table.old.classes.items page None ≡ Some class }
-    requires dead { (i : ℕ) → i < 512 → has table.old.live (512 * page + i) ≡ false }
+    requires dead { (i : ℕ) → i < PAGE_WORDS → has table.old.live (PAGE_WORDS * page + i) ≡ false }
     requires run { run_at pages.old slab_use (page_start page) ≡ Some 1 }
     ensures marks { IsKept table.new }
     ensures classes { table.new.classes.items ≡ slice_set table.old.classes.items page None }
@@ -159,8 +160,8 @@ pub fn give_small(table: &mut Table, pages: &mut Pages, page: usize, class: u32,
     requires marks { IsKept table.old }
     requires fits { Fits (sheets table.old) pages.old }
     requires class { slice_index_or table.old.classes.items page None ≡ Some class }
-    requires small { slot < 512 }
-    requires live { has table.old.live (512 * page + slot) ≡ true }
+    requires small { slot < PAGE_WORDS }
+    requires live { has table.old.live (PAGE_WORDS * page + slot) ≡ true }
     ensures marks { IsKept table.new }
     ensures loses { Loses (sheets table.old) (sheets table.new) (page_start page + class * slot) }
     ensures back { (before : Sheets) (held : List (Option Run)) → TakesSlot before (sheets table.old) held pages.old class page slot → (sheets table.new ≡ before) × (pages.new ≡ held) }

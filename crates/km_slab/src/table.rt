@@ -4,6 +4,7 @@ ghost use Rattle.std.specs.Prelude.{◌≡◌, ◌+◌, ◌*◌, ◌/◌, ◌^�
 ghost use Rattle.km_marks.specs.Sets.{has, with_mark};
 ghost use Rattle.km_slab.specs.Blocks.{HasFree, IsFreeAt, IsFull, IsSize};
 ghost use Rattle.km_slab.specs.Tables.{IsKept, sheets};
+ghost use Rattle.km_base.specs.declared.sizes.TheConstants.{PAGE, PAGE_WORDS};
 ghost use Rattle.km_model.specs.Placement.{page_start};
 
 use km_base::Addr;
@@ -94,7 +95,7 @@ pub fn lowest_slot(table: &Table, page: usize, class: u32) -> usize
     requires page { page < length table.now.classes.items }
     requires free { HasFree (sheets table.now) class page }
     ensures slot { IsFreeAt (sheets table.now) class page result }
-    ensures small { result < 512 }
+    ensures small { result < PAGE_WORDS }
 {
     match table
         .free
@@ -110,12 +111,12 @@ pub fn take_slot(table: &mut Table, page: usize, class: u32, slot: usize)
     requires marks { IsKept table.old }
     requires page { page < length table.old.classes.items }
     requires size { IsSize class }
-    requires small { slot < 512 }
+    requires small { slot < PAGE_WORDS }
     requires free { IsFreeAt (sheets table.old) class page slot }
     ensures marks { IsKept table.new }
     ensures classes { table.new.classes.items ≡ table.old.classes.items }
-    ensures live { (j : ℕ) → has table.new.live j ≡ (j == 512 * page + slot || has table.old.live j) }
-    ensures marked { table.new.live ≡ with_mark table.old.live (512 * page + slot) }
+    ensures live { (j : ℕ) → has table.new.live j ≡ (j == PAGE_WORDS * page + slot || has table.old.live j) }
+    ensures marked { table.new.live ≡ with_mark table.old.live (PAGE_WORDS * page + slot) }
 {
     table.free.remove(SLOTS * page + slot);
     table.live.insert(SLOTS * page + slot);
@@ -136,12 +137,12 @@ pub fn give_slot(table: &mut Table, page: usize, class: u32, slot: usize)
     requires page { page < length table.old.classes.items }
     requires size { IsSize class }
     requires class { slice_index_or table.old.classes.items page None ≡ Some class }
-    requires small { slot < 512 }
-    requires fits { slot < 4096 / class }
+    requires small { slot < PAGE_WORDS }
+    requires fits { slot < PAGE / class }
     ensures marks { IsKept table.new }
     ensures classes { table.new.classes.items ≡ table.old.classes.items }
-    ensures live { (j : ℕ) → has table.new.live j ≡ (not (j == 512 * page + slot) && has table.old.live j) }
-    ensures back { (before : List ℕ) → table.old.live ≡ with_mark before (512 * page + slot) → has table.old.live (512 * page + slot) ≡ true → table.new.live ≡ before }
+    ensures live { (j : ℕ) → has table.new.live j ≡ (not (j == PAGE_WORDS * page + slot) && has table.old.live j) }
+    ensures back { (before : List ℕ) → table.old.live ≡ with_mark before (PAGE_WORDS * page + slot) → has table.old.live (PAGE_WORDS * page + slot) ≡ true → table.new.live ≡ before }
 {
     table.live.remove(SLOTS * page + slot);
     table.free.insert(SLOTS * page + slot);
@@ -156,7 +157,7 @@ pub fn drop_page(table: &mut Table, page: usize, class: u32)
     requires page { page < length table.old.classes.items }
     requires size { IsSize class }
     requires class { slice_index_or table.old.classes.items page None ≡ Some class }
-    requires dead { (i : ℕ) → i < 512 → has table.old.live (512 * page + i) ≡ false }
+    requires dead { (i : ℕ) → i < PAGE_WORDS → has table.old.live (PAGE_WORDS * page + i) ≡ false }
     ensures marks { IsKept table.new }
     ensures classes { table.new.classes.items ≡ slice_set table.old.classes.items page None }
     ensures live { table.new.live ≡ table.old.live }
@@ -173,10 +174,10 @@ pub fn slot_at(table: &Table, start: Addr) -> Option<(usize, u32, usize)>
     requires marks { IsKept table.now }
     ensures page { IfSome result (λ r. r.0 < length table.now.classes.items) }
     ensures class { IfSome result (λ r. slice_index_or table.now.classes.items r.0 None ≡ Some r.1) }
-    ensures small { IfSome result (λ r. r.2 < 512) }
-    ensures live { IfSome result (λ r. has table.now.live (512 * r.0 + r.2) ≡ true) }
+    ensures small { IfSome result (λ r. r.2 < PAGE_WORDS) }
+    ensures live { IfSome result (λ r. has table.now.live (PAGE_WORDS * r.0 + r.2) ≡ true) }
     ensures start { IfSome result (λ r. start.0 ≡ page_start r.0 + r.1 * r.2) }
-    ensures none { result ≡ None → (p class i : ℕ) → slice_index_or table.now.classes.items p None ≡ Some class → i < 512 → start.0 ≡ page_start p + class * i → has table.now.live (512 * p + i) ≡ false }
+    ensures none { result ≡ None → (p class i : ℕ) → slice_index_or table.now.classes.items p None ≡ Some class → i < PAGE_WORDS → start.0 ≡ page_start p + class * i → has table.now.live (PAGE_WORDS * p + i) ≡ false }
 {
     let offset = start.0.checked_sub(BASE)?;
     let page = (offset / PAGE as u64) as usize;

@@ -3,6 +3,7 @@
 ghost use Rattle.std.specs.Prelude.{◌≡◌, ◌+◌, ◌*◌, ◌<◌, ◌≤◌, ◌^◌, ◌==◌, ℕ, List, ◌∷◌, [], ◌++◌, length, map, Some, None, IfOk, IfSome, OnErr, option_map, bytes_eq, true, false, is_some, is_ok, nat_lt, Option, vec_len, vec_capacity};
 ghost use Rattle.std.specs.List.{All, position};
 ghost use Rattle.std.specs.Result.{result_ok};
+ghost use Rattle.km_base.specs.declared.sizes.TheConstants.{PAGE, PAGE_WORDS};
 ghost use Rattle.km_model.specs.Placement.{Allocation, lowest_run, page_start, run_place, without_allocation};
 ghost use Rattle.km_model.specs.Tasks.{place_of, register, task_named, with_register, without_task};
 ghost use Rattle.km_pages.specs.declared.runs.Run.{Run};
@@ -180,7 +181,7 @@ impl Tasks {
         ensures pages_count { length pages.new ≡ length pages.old }
         ensures others { (other : Use) (p : ℕ) → same_use Stack other ≡ false → run_from pages.new other p ≡ run_from pages.old other p }
         ensures fits { Fits self.old.tasks pages.old → Fits self.new.tasks pages.new }
-        ensures answer_among { (used : List Allocation) → AreLaid pages.old used → answer_of result ≡ start_answer self.old.tasks name (run_place (512 * length pages.old) used 1) }
+        ensures answer_among { (used : List Allocation) → AreLaid pages.old used → answer_of result ≡ start_answer self.old.tasks name (run_place (PAGE_WORDS * length pages.old) used 1) }
         ensures started_among { IfOk result (λ _. (used : List Allocation) → AreLaid pages.old used → self.new ≡ with_task self.old name (page_start (lowest_run used 1))) }
         ensures apart { IfOk result (λ _. (used : List Allocation) → AreLaid pages.old used → All (λ (x : Allocation). IsBeside x (stack_page (page_start (lowest_run used 1)))) used) }
         ensures laid { IfOk result (λ _. (used : List Allocation) → AreLaid pages.old used → AreLaid pages.new (used ++ stack_page (page_start (lowest_run used 1)) ∷ [])) }
@@ -266,7 +267,7 @@ impl Tasks {
     pub fn next_after(&self, number: u64) -> Option<(u64, Span)>
         ensures number { option_map (λ r. r.0) result ≡ option_map (λ t. t.number) (task_after self.now.tasks number) }
         ensures stack { option_map (λ r. r.1.start.0) result ≡ option_map (λ t. t.stack) (task_after self.now.tasks number) }
-        ensures size { IfSome result (λ r. r.1.size ≡ 4096) }
+        ensures size { IfSome result (λ r. r.1.size ≡ PAGE) }
         ensures numbers { AreNumbered 0 self.now.tasks self.now.started }
     {
         match first_above(&self.lives, number) {

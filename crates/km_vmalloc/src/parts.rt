@@ -3,6 +3,7 @@
 ghost use Rattle.std.specs.Prelude.{◌≡◌, ◌+◌, ◌*◌, ◌<◌, ◌≤◌, ◌==◌, ◌⊎◌, ◌↔◌, ℕ, List, ◌∷◌, [], ◌++◌, length, Option, Some, None, true, false, IfOk, OnErr, option_map, if◌then◌else◌};
 ghost use Rattle.std.specs.List.{All};
 ghost use Rattle.std.specs.Result.{result_ok};
+ghost use Rattle.km_base.specs.declared.sizes.TheConstants.{PAGE, PAGE_WORDS};
 ghost use Rattle.km_model.specs.Placement.{Allocation, area_place, lowest_slab, next_head, page_of, pages_for, run_place, without_allocation};
 ghost use Rattle.km_pages.specs.declared.runs.Run.{Run};
 ghost use Rattle.km_pages.specs.declared.runs.Use as kinds;
@@ -35,8 +36,8 @@ fn pages_needed(size: u64) -> u32
 fn take_run(pages: &mut Pages, size: u64) -> Result<Span, NoRoom>
     requires some { 0 < size }
     requires most { size ≤ 1048576 }
-    ensures place { (used : List Allocation) → AreLaid pages.old used → option_map (λ s. s.start.0) (result_ok result) ≡ run_place (512 * length pages.old) used (pages_for size) }
-    ensures size { IfOk result (λ s. s.size ≡ 4096 * pages_for size) }
+    ensures place { (used : List Allocation) → AreLaid pages.old used → option_map (λ s. s.start.0) (result_ok result) ≡ run_place (PAGE_WORDS * length pages.old) used (pages_for size) }
+    ensures size { IfOk result (λ s. s.size ≡ PAGE * pages_for size) }
     ensures apart { IfOk result (λ s. (used : List Allocation) → AreLaid pages.old used → All (IsApart s) used) }
     ensures fresh { IfOk result (λ s. run_at pages.old vmalloc_use s.start.0 ≡ None) }
     ensures pages_stay { OnErr result (pages.new ≡ pages.old) }
@@ -93,7 +94,7 @@ pub fn take_parts(pages: &mut Pages, slab: &mut Slab, size: u64) -> Result<(Span
     requires some { 0 < size }
     requires most { size ≤ 1048576 }
     requires fits { SlabFits slab.old pages.old }
-    ensures place { (used : List Allocation) → AreLaid pages.old used → AreBlocks slab.old used → option_map (λ r. r.1.start.0) (result_ok result) ≡ area_place (512 * length pages.old) used size }
+    ensures place { (used : List Allocation) → AreLaid pages.old used → AreBlocks slab.old used → option_map (λ r. r.1.start.0) (result_ok result) ≡ area_place (PAGE_WORDS * length pages.old) used size }
     ensures parts { IfOk result (λ r. IsPlaced pages.old slab.old pages.new slab.new size r.0 r.1) }
     ensures slab_stays { OnErr result (slab.new ≡ slab.old) }
     ensures pages_stay { OnErr result (pages.new ≡ pages.old) }

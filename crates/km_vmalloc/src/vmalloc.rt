@@ -2,6 +2,7 @@
 
 ghost use Rattle.std.specs.Prelude.{◌≡◌, ◌+◌, ◌*◌, ◌<◌, ◌↔◌, ℕ, List, ◌∷◌, [], ◌++◌, length, slice_set, Option, Some, None, true, false, is_ok, is_some, option_map, IfOk, IfSome, OnErr};
 ghost use Rattle.std.specs.List.{All, list_any};
+ghost use Rattle.km_base.specs.declared.sizes.TheConstants.{PAGE, PAGE_WORDS};
 ghost use Rattle.km_model.specs.Placement.{Allocation, head_with, lowest_slab, lowest_slot, pages_for, slot_of_area};
 ghost use Rattle.km_pages.specs.declared.runs.Run.{Run};
 ghost use Rattle.km_pages.specs.declared.runs.Use as kinds;
@@ -61,10 +62,10 @@ impl Vmalloc {
     pub fn take(&mut self, pages: &mut Pages, slab: &mut Slab, size: u64) -> Result<VmArea, VmFault>
         requires slab_fits { SlabFits slab.old pages.old }
         requires fits { Fits self.old slab.old pages.old }
-        ensures answer { (used : List Allocation) → AreLaid pages.old used → AreBlocks slab.old used → AreAreas self.old used → answer_of result ≡ vmalloc_answer (512 * length pages.old) used size }
+        ensures answer { (used : List Allocation) → AreLaid pages.old used → AreBlocks slab.old used → AreAreas self.old used → answer_of result ≡ vmalloc_answer (PAGE_WORDS * length pages.old) used size }
         ensures head { IfOk result (λ v. (used : List Allocation) → AreLaid pages.old used → AreBlocks slab.old used → v.head.start.0 ≡ lowest_slab used 64) }
         ensures slot { IfOk result (λ v. (used : List Allocation) → AreAreas self.old used → v.slot ≡ lowest_slot used) }
-        ensures sizes { IfOk result (λ v. (v.head.size ≡ 64) × (v.area.size ≡ 4096 * pages_for size)) }
+        ensures sizes { IfOk result (λ v. (v.head.size ≡ 64) × (v.area.size ≡ PAGE * pages_for size)) }
         ensures head_apart { IfOk result (λ v. (used : List Allocation) → AreLaid pages.old used → AreBlocks slab.old used → All (IsApart v.head) used) }
         ensures area_apart { IfOk result (λ v. (used : List Allocation) → AreLaid pages.old used → AreBlocks slab.old used → All (IsApart v.area) (used ++ head_of v ∷ [])) }
         ensures free { IfOk result (λ v. area_at self.old v.slot ≡ None) }
