@@ -3,7 +3,7 @@
 ghost use Rattle.std.specs.Prelude.{◌≡◌};
 ghost use Rattle.km_entries.specs.File.{cut_text, no_line_text, ok_text, wrong_text};
 
-use crate::text::Text;
+use km_text::Text;
 
 /// Of a whole journal: the numbers of its events and of its completed scans.
 pub fn check_ok(events: u64, scans: u64, out: &mut Text)

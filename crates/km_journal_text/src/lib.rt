@@ -2,7 +2,6 @@
 #![tactic(auto)]
 
 mod checks;
-mod text;
 
 pub use checks::{check_cut, check_form, check_ok, check_wrong};
-pub use text::Text;
+pub use km_text::Text;
