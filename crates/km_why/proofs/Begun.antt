@@ -1,8 +1,8 @@
 -- At first nothing is found, and none waits.
-use Rattle.std.proofs.Common.{◌≡◌, ℕ, ◌≤◌, inl, inr, Bool, true, false, ◌&&◌, cond, leb, ltb, List, [], ◌∷◌, length, map, filter, sum_by, refl, sym, ◌∙◌, ap, subst, arith}
+use Rattle.std.proofs.Common.{◌≡◌, ℕ, ◌≤◌, inl, inr, true, false, ◌&&◌, cond, leb, ltb, List, [], ◌∷◌, length, map, filter, sum_by, refl, sym, ◌∙◌, ap, subst, arith}
 use Rattle.std.specs.BinaryHeap.{IsHeap}
 use Rattle.km_model.proofs.Lists.{In}
-use Rattle.km_model.specs.Blocks.{Block, Minimum, Black, AtLeast}
+use Rattle.km_model.specs.Blocks.{Minimum, Black, AtLeast}
 use Rattle.km_track.specs.Tracker.{Live, Tracker, id_of}
 use Rattle.km_why.specs.declared.counts.Count.{Count}
 use Rattle.km_why.specs.Counts.{AreCounted}

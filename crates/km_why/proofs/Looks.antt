@@ -1,5 +1,5 @@
 -- What a look among the live blocks finds.
-use Rattle.std.proofs.Common.{◌≡◌, ℕ, zero, suc, ◌+◌, ◌<◌, ◌==◌, inl, inr, Bool, true, false, ◌&&◌, not, cond, List, [], ◌∷◌, length, slice_index, Option, Some, None, find, map, refl, sym, ◌∙◌, ap, subst, option_map, if◌then◌else◌}
+use Rattle.std.proofs.Common.{◌≡◌, ℕ, zero, suc, ◌+◌, ◌<◌, ◌==◌, inl, inr, Bool, true, false, ◌&&◌, not, cond, List, [], ◌∷◌, length, slice_index, Option, Some, None, find, map, refl, sym, ◌∙◌, ap, subst, option_map}
 use Rattle.km_model.proofs.Cases.{elim_false, none_some, some_same}
 use Rattle.km_model.proofs.Lists.{In, find_in}
 use Rattle.km_base.specs.Spans.{untagged}

@@ -1,6 +1,5 @@
 -- Those that wait are those that may follow.
-use Rattle.std.proofs.Common.{◌≡◌, ℕ, zero, suc, ◌<◌, ◌≤◌, ◌==◌, inl, inr, Bool, true, false, ◌&&◌, ◌||◌, not, cond, leb, ltb, List, [], ◌∷◌, length, map, Some, None, find, refl, sym, ◌∙◌, ap, subst, arith, lt-ltb}
-use Rattle.std.specs.List.{list_any}
+use Rattle.std.proofs.Common.{◌≡◌, ℕ, zero, suc, ◌<◌, ◌≤◌, ◌==◌, inl, inr, Bool, true, false, ◌&&◌, ◌||◌, not, cond, leb, List, [], ◌∷◌, length, Some, None, find, refl, sym, ◌∙◌, ap, subst, arith, lt-ltb}
 use Rattle.km_certificates.specs.Certificates.{is_member, may_follow}
 use Rattle.km_held.proofs.Prefixes.{first_is}
 use Rattle.km_model.proofs.Cases.{elim_false}
@@ -9,16 +8,14 @@ use Rattle.km_model.specs.Blocks.{Block, Minimum, Black, AtLeast, is_black, need
 use Rattle.km_model.specs.Held.{is_supported}
 use Rattle.km_model.specs.Memory.{index_of}
 use Rattle.km_model.specs.Tasks.{Task}
-use Rattle.km_state.specs.State.{blocks_in}
-use Rattle.km_track.specs.Tracker.{AreRising, Live, Tracker, id_of}
+use Rattle.km_track.specs.Tracker.{Live, Tracker}
 use Rattle.km_why.specs.declared.counts.Count.{Count}
 use Rattle.km_why.specs.Counts.{count_at}
-use Rattle.km_why.specs.References.{found_in, is_enough, sources}
+use Rattle.km_why.specs.References.{found_in, sources}
 use Rattle.km_why.specs.Told.{blocks_of, stacks_of, standing_of}
 use Rattle.km_why.specs.Next.{StandsFor}
 use Rattle.km_why.specs.Waiting.{IsFirst, Key, is_ripe, is_waiting}
 use Rattle.km_why.proofs.Cleared.{on_is}
-use Rattle.km_why.proofs.Heads.{blocks_on}
 use Rattle.km_why.proofs.Laid.{ids_rise}
 use Rattle.km_why.proofs.Raised.{ripe_with}
 use Rattle.km_why.proofs.Sources.{enough_same}

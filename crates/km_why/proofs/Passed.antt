@@ -168,7 +168,7 @@ tasks_next high tasks last number stack numbers next =
     ∙ ap (λ n. words_from 512 stack ++ stacks_after tasks n) next.number_is
 
 -- the place of a block
-placed : (z start size words : ℕ) → z ≤ start → start + size ≤ z + 8 * words → 0 < size → (start - z) / 8 < words
+pub placed : (z start size words : ℕ) → z ≤ start → start + size ≤ z + 8 * words → 0 < size → (start - z) / 8 < words
 placed z start size words low end some = omega (arith, low, end, some)
 
 pub place_within : (words : ℕ) (t : Tracker) (cs : List Count) → AreSpread words t → words ≤ length cs → (b : Block) → In b (blocks_of t) → index_of b.start < length cs

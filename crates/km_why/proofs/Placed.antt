@@ -16,7 +16,7 @@ use Rattle.km_why.proofs.Counted.{at_place, same_place}
 use Rattle.km_why.proofs.Passed.{all_aligned}
 use Rattle.km_why.proofs.Raised.{ripe_with}
 
-in_blocks : (ls : List Live) (y : Live) → In y ls → In y.tracked.block (blocks_in (map (λ (l : Live). l.tracked) ls))
+pub in_blocks : (ls : List Live) (y : Live) → In y ls → In y.tracked.block (blocks_in (map (λ (l : Live). l.tracked) ls))
 in_blocks [] y i = absurd i
 in_blocks (x ∷ ls) y (inl e) = inl (ap (λ (l : Live). l.tracked.block) e)
 in_blocks (x ∷ ls) y (inr i) = inr (in_blocks ls y i)

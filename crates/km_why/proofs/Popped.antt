@@ -1,6 +1,6 @@
 -- The first of those that wait is taken from the heap.
 use Rattle.std.proofs.Common.{◌≡◌, ℕ, suc, ◌+◌, ◌<◌, ◌≤◌, ◌==◌, inl, inr, Bool, true, false, ◌&&◌, ◌||◌, not, cond, ltb, List, [], ◌∷◌, ◌++◌, length, map, filter, sum_by, refl, sym, ◌∙◌, ap, subst, arith, eqb-true, eq-eqb, ne_eqb, ltb-true}
-use Rattle.std.specs.BinaryHeap.{IsHeap, IsUpperBound, PopsGreatest}
+use Rattle.std.specs.BinaryHeap.{IsUpperBound, PopsGreatest}
 use Rattle.std.specs.List.{list_any}
 use Rattle.std.specs.List.Sorted.{IsPermutation}
 use Rattle.std.specs.Ordering.{is_lt, ordering_then}
@@ -16,7 +16,6 @@ use Rattle.km_model.specs.Blocks.{Block, needs}
 use Rattle.km_track.specs.Tracker.{AreRising, Live, id_of}
 use Rattle.km_why.specs.declared.counts.Count.{Count}
 use Rattle.km_why.specs.Waiting.{AreWaiting, IsFirst, IsTaken, Key, first_comes_first, is_ripe, is_waiting, key_of}
-use Rattle.km_why.proofs.Raised.{ones}
 use Rattle.km_why.proofs.Waits.{live_once, one_more}
 
 -- whether two keys are one

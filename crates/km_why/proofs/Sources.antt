@@ -159,7 +159,7 @@ module _ (words : ℕ) (t : ℕ → Bool) where
       and_all true = refl
       and_all false = refl
 
-  of_blocks : (bs : List Block) → Each (λ (b : Block). IsInMemory words b.start b.size × IsOfWords b.start b.size) bs → Pairs (λ (b c : Block). AreApart b.start b.size c.start c.size) bs
+  pub of_blocks : (bs : List Block) → Each (λ (b : Block). IsInMemory words b.start b.size × IsOfWords b.start b.size) bs → Pairs (λ (b c : Block). AreApart b.start b.size c.start c.size) bs
       → count (λ a. t a && list_any (λ x. is_scanned x a) bs) all ≡ count t (flat_map scanned_words bs)
   of_blocks [] each apart = count_none (λ a. t a && false) words base (λ a i. and_none (t a))
   of_blocks (b ∷ bs) each apart =
@@ -186,7 +186,7 @@ pub record IsSource (words : ℕ) (stacks : List Task) (before : List Block) : T
   pub apart : Each (λ (t : Task). Each (λ (b : Block). AreApart t.stack 4096 b.start b.size) before) stacks
 
 -- what passes among the words that are loaded
-loaded : (memory : List ℕ) (t : ℕ → Bool) (s : Standing) (before : List Block) → IsSource (length memory) s.stacks before
+pub loaded : (memory : List ℕ) (t : ℕ → Bool) (s : Standing) (before : List Block) → IsSource (length memory) s.stacks before
     → count (λ a. t a && (list_any (λ x. is_scanned x a) before || list_any (in_stack a) s.stacks)) (words_from (length memory) base) ≡ count t (sources s.stacks before)
 loaded memory t s before src =
     let all : List ℕ = words_from (length memory) base in

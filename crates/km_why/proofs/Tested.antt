@@ -51,12 +51,12 @@ other : (a size c rest : ℕ) → AreApart a size c rest → AreApart c rest a s
 other a size c rest (inl le) = inr le
 other a size c rest (inr le) = inl le
 
-member_in : (before : List Block) (b : Block) → In b before → is_member before b ≡ true
+pub member_in : (before : List Block) (b : Block) → In b before → is_member before b ≡ true
 member_in [] b i = absurd i
 member_in (x ∷ before) b (inl same) = or_left (x.id == b.id) (is_member before b) (eq-eqb x.id b.id (ap (λ (y : Block). y.id) (sym same)))
 member_in (x ∷ before) b (inr i) = or_right (x.id == b.id) (is_member before b) (member_in before b i)
 
-apart_push : (t : Tracker) (words : ℕ) (tasks : List Task) (before : List Block) (b : Block) → AreLaidOut words (blocks_of t) tasks → IsApart t before → In b (blocks_of t) → is_member before b ≡ false → IsApart t (before ++ b ∷ [])
+pub apart_push : (t : Tracker) (words : ℕ) (tasks : List Task) (before : List Block) (b : Block) → AreLaidOut words (blocks_of t) tasks → IsApart t before → In b (blocks_of t) → is_member before b ≡ false → IsApart t (before ++ b ∷ [])
 apart_push t words tasks before b laid a i out = record {
   inside = each_push (λ x. In x (blocks_of t)) before b a.inside i;
   apart = pairs_push (λ (x y : Block). AreApart x.start x.size y.start y.size) before b a.apart

@@ -51,7 +51,7 @@ module _ {X : Type 0} (f : X → Key) (p q : X → Bool) (x : X) where
       no_more (z ∷ ys) = elim (p z) as (λ b. length (cond b (z ∷ filter p ys) (filter p ys)) ≤ suc (length ys)) [ true ↦ (let le = no_more ys in omega (arith, le)) | false ↦ (let le = no_more ys in omega (arith, le)) ]
   one_less (y ∷ xs) (inr i) e = elim (p y) as (λ b. length (cond b (y ∷ filter p xs) (filter p xs)) < suc (length xs)) [ true ↦ (let lt = one_less xs i e in omega (arith, lt)) | false ↦ (let lt = one_less xs i e in omega (arith, lt)) ]
 
-rising_in : (low high : ℕ) (ls : List Live) (l : Live) → AreRising low ls high → In l ls → low ≤ l.tracked.block.id
+pub rising_in : (low high : ℕ) (ls : List Live) (l : Live) → AreRising low ls high → In l ls → low ≤ l.tracked.block.id
 rising_in low high [] l r i = absurd i
 rising_in low high (x ∷ ls) l r (inl same) = subst (λ (y : Live). low ≤ y.tracked.block.id) (sym same) r.0
 rising_in low high (x ∷ ls) l r (inr i) = let le = r.0 in let more = rising_in (x.tracked.block.id + 1) high ls l r.1 i in omega (arith, le, more)

@@ -9,7 +9,7 @@ ghost use Rattle.km_model.specs.Scan.{excess_block};
 ghost use Rattle.km_model.specs.Tasks.{Task, stack_words};
 ghost use Rattle.km_record.specs.Records.{IsLaid, IsSound, block_of};
 ghost use Rattle.std.specs.BinaryHeap.{heap_capacity, heap_items, heap_len};
-ghost use Rattle.km_track.specs.Tracker.{AreRising, Live};
+ghost use Rattle.km_track.specs.Tracker.{AreRising, Live, NeverMeet};
 ghost use Rattle.km_why.specs.Waiting.{ArePlaced, AreWaiting, CanWait, HaveMembers, live_as};
 ghost use Rattle.km_why.specs.Told.{AreApart, IsInMemory, IsOfWords, TellsAll, TellsSame, blocks_of, memory_of};
 ghost use Rattle.km_why.specs.Counts.{AreCounted, AreSpread, HaveRoom, IsReferred, added, count_at, counted_in, none_found, passed_in, raised};
@@ -36,7 +36,7 @@ pub struct Count {
 }
 
 /// The place of the block that begins at a word.
-fn place(start: Addr) -> usize
+pub fn place(start: Addr) -> usize
     requires { base ≤ start.0 }
     ensures { result ≡ index_of start.0 }
 {
@@ -71,10 +71,11 @@ fn reset(counts: &mut Vec<Count>, start: Addr)
 
 /// Nothing is found at any live block.
 pub fn clear<M: ObjectMap>(counts: &mut Vec<Count>, track: &Track<M>)
-    requires aligned { Each (λ (b : Block). base ≤ b.start) (blocks_of track.now) }
-    requires room { (b : Block) → In b (blocks_of track.now) → index_of b.start < length counts.old.items }
+    requires { Each (λ (b : Block). IsInMemory (length counts.old.items) b.start b.size) (blocks_of track.now) }
     ensures counted { (memory : List ℕ) → AreCounted memory (blocks_of track.now) [] counts.new.items }
     ensures long { length counts.new.items ≡ length counts.old.items }
+    ensures rising { AreRising 0 track.now.live track.now.registered }
+    ensures apart { NeverMeet track.now.live }
 {
     let mut next = track.first();
     while let Some(id) = next {
@@ -131,6 +132,7 @@ fn pass_on(
     requires room { CanWait counts.old.items (heap_items waiting.old) (heap_len waiting.old) (heap_capacity waiting.old) id to.now }
     ensures items { (e : Block) → span_of e ≡ to.now.span → counts.new.items ≡ passed_in counts.old.items a.0 (index_of head.0) min e }
     ensures waits { (live : List Live) (high : ℕ) (members : List Block) → ArePlaced live high → In (live_as id to.now) live → AreWaiting live counts.old.items members (heap_items waiting.old) (heap_len waiting.old) (heap_capacity waiting.old) → AreWaiting live counts.new.items members (heap_items waiting.new) (heap_len waiting.new) (heap_capacity waiting.new) }
+    ensures capacity { heap_capacity waiting.old ≤ heap_capacity waiting.new }
 {
     if has(to.span, a.0) {
         return;
@@ -189,6 +191,7 @@ fn hit<M: ObjectMap>(
     requires waits { HaveMembers track.now.live counts.old.items (heap_items waiting.old) (heap_len waiting.old) (heap_capacity waiting.old) }
     ensures items { (n : ℕ) → counts.new.items ≡ counted_in counts.old.items a.0 (block_of n block.now) (excess_block (blocks_of track.now) (block_of n block.now)) }
     ensures waits { (members : List Block) → AreWaiting track.now.live counts.old.items members (heap_items waiting.old) (heap_len waiting.old) (heap_capacity waiting.old) → AreWaiting track.now.live counts.new.items members (heap_items waiting.new) (heap_len waiting.new) (heap_capacity waiting.new) }
+    ensures capacity { heap_capacity waiting.old ≤ heap_capacity waiting.new }
 {
     raise_block(counts, waiting, id, block);
     let Minimum::AtLeast(min) = block.minimum else {
@@ -219,6 +222,7 @@ fn count_word<M: ObjectMap, W: Words>(
     ensures counted { (ws : List ℕ) → AreCounted (memory_of (W.told words.old)) (blocks_of track.now) ws counts.old.items → AreCounted (memory_of (W.told words.old)) (blocks_of track.now) (ws ++ a.0 ∷ []) counts.new.items }
     ensures long { length counts.new.items ≡ length counts.old.items }
     ensures waits { (members : List Block) → AreWaiting track.now.live counts.old.items members (heap_items waiting.old) (heap_len waiting.old) (heap_capacity waiting.old) → AreWaiting track.now.live counts.new.items members (heap_items waiting.new) (heap_len waiting.new) (heap_capacity waiting.new) }
+    ensures capacity { heap_capacity waiting.old ≤ heap_capacity waiting.new }
     ensures told { TellsSame (W.told words.old) (W.told words.new) }
 {
     let value = words.load(a);
@@ -246,6 +250,7 @@ pub fn count_block<M: ObjectMap, W: Words>(
     ensures counted { (ws : List ℕ) → AreCounted (memory_of (W.told words.old)) (blocks_of track.now) ws counts.old.items → AreCounted (memory_of (W.told words.old)) (blocks_of track.now) (ws ++ scanned_words (block_of 0 block.now)) counts.new.items }
     ensures long { length counts.new.items ≡ length counts.old.items }
     ensures waits { (members : List Block) → AreWaiting track.now.live counts.old.items members (heap_items waiting.old) (heap_len waiting.old) (heap_capacity waiting.old) → AreWaiting track.now.live counts.new.items members (heap_items waiting.new) (heap_len waiting.new) (heap_capacity waiting.new) }
+    ensures capacity { heap_capacity waiting.old ≤ heap_capacity waiting.new }
     ensures told { TellsSame (W.told words.old) (W.told words.new) }
 {
     let mut from = 0;
@@ -280,6 +285,7 @@ fn count_stack<M: ObjectMap, W: Words>(
     ensures counted { (ws : List ℕ) → AreCounted (memory_of (W.told words.old)) (blocks_of track.now) ws counts.old.items → AreCounted (memory_of (W.told words.old)) (blocks_of track.now) (ws ++ words_from 512 stack.0) counts.new.items }
     ensures long { length counts.new.items ≡ length counts.old.items }
     ensures waits { (members : List Block) → AreWaiting track.now.live counts.old.items members (heap_items waiting.old) (heap_len waiting.old) (heap_capacity waiting.old) → AreWaiting track.now.live counts.new.items members (heap_items waiting.new) (heap_len waiting.new) (heap_capacity waiting.new) }
+    ensures capacity { heap_capacity waiting.old ≤ heap_capacity waiting.new }
     ensures told { TellsSame (W.told words.old) (W.told words.new) }
 {
     for i in 0..PAGE_WORDS {
@@ -305,6 +311,7 @@ pub fn count_stacks<M: ObjectMap, W: Words>(
     ensures counted { (ws : List ℕ) → AreCounted (memory_of (W.told words.old)) (blocks_of track.now) ws counts.old.items → AreCounted (memory_of (W.told words.old)) (blocks_of track.now) (ws ++ flat_map stack_words tasks.now.tasks) counts.new.items }
     ensures long { length counts.new.items ≡ length counts.old.items }
     ensures waits { (members : List Block) → AreWaiting track.now.live counts.old.items members (heap_items waiting.old) (heap_len waiting.old) (heap_capacity waiting.old) → AreWaiting track.now.live counts.new.items members (heap_items waiting.new) (heap_len waiting.new) (heap_capacity waiting.new) }
+    ensures capacity { heap_capacity waiting.old ≤ heap_capacity waiting.new }
     ensures told { TellsSame (W.told words.old) (W.told words.new) }
 {
     let mut last = 0;

@@ -56,6 +56,7 @@ pub fn raise_block(
     requires room { CanWait counts.old.items (heap_items waiting.old) (heap_len waiting.old) (heap_capacity waiting.old) id block.now }
     ensures items { counts.new.items ≡ raised counts.old.items (index_of block.now.span.start.0) }
     ensures waits { (live : List Live) (high : ℕ) (members : List Block) → ArePlaced live high → In (live_as id block.now) live → AreWaiting live counts.old.items members (heap_items waiting.old) (heap_len waiting.old) (heap_capacity waiting.old) → AreWaiting live counts.new.items members (heap_items waiting.new) (heap_len waiting.new) (heap_capacity waiting.new) }
+    ensures capacity { heap_capacity waiting.old ≤ heap_capacity waiting.new }
 {
     let found = raise(counts, block.span.start);
     notice(waiting, id, block.minimum, found);
@@ -65,6 +66,7 @@ pub fn raise_block(
 pub fn take_first(waiting: &mut BinaryHeap<Waiting>) -> Option<RecId>
     ensures taken { IfSome result (λ id. (live : List Live) (high : ℕ) (counts : List Counted) (members : List Block) → AreRising 0 live high → AreWaiting live counts members (heap_items waiting.old) (heap_len waiting.old) (heap_capacity waiting.old) → IsTaken live counts members (heap_items waiting.new) (heap_len waiting.new) (heap_capacity waiting.new) (key_of id)) }
     ensures none { IfNone result ((live : List Live) (counts : List Counted) (members : List Block) → AreWaiting live counts members (heap_items waiting.old) (heap_len waiting.old) (heap_capacity waiting.old) → (l : Live) → In l live → is_waiting counts members l.tracked.block ≡ false) }
+    ensures capacity { heap_capacity waiting.new ≡ heap_capacity waiting.old }
 {
     let Some((Reverse(generation), slot)) = waiting.pop() else {
         return None;

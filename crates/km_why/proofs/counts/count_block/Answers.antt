@@ -5,7 +5,7 @@ use Rattle.km_why.proofs.Passed.{begins, block_begins, block_over, block_split, 
 use Rattle.km_why.proofs.counts.count_block.Goals as goal
 
 pub loop-i-init : goal.loop-i-init
-loop-i-init g c = (begins _ _ _ _ _ _ (told_same _) (block_begins (block_of 0 c.args.block.now)), λ members w. w)
+loop-i-init g c = (begins _ _ _ _ _ _ (told_same _) (block_begins (block_of 0 c.args.block.now)), λ members w. w, omega arith)
 
 pub count_word-requires-clause-room : goal.count_word-requires-clause-room
 count_word-requires-clause-room g c = has_room _ _ _ _ _ _ _ _ _ c.requires.room c.loop-i.invariant.0 (block_split (block_of 0 c.args.block.now) c.loop-i.from c.in-Some.i c.in-Some.ensures.least)
@@ -21,6 +21,7 @@ loop-i-preserved g c = (
   goes_on _ _ _ _ _ _ _ _ _ _ _ c.loop-i.invariant.0 (block_split (block_of 0 c.args.block.now) c.loop-i.from c.in-Some.i c.in-Some.ensures.least)
       c.count_word.ensures.counted c.count_word.ensures.long c.count_word.ensures.told,
   λ members w. c.count_word.ensures.waits members (c.loop-i.invariant.1 members w),
+  let was = c.loop-i.invariant.2 in let more = c.count_word.ensures.capacity in omega (arith, was, more),
 )
 
 pub returns-clause-counted : goal.returns-clause-counted

@@ -1,10 +1,11 @@
+use Rattle.std.proofs.Common.{arith}
 use Rattle.km_why.proofs.Walks.{told_same}
 use Rattle.km_why.proofs.Stacks.{stack_over}
 use Rattle.km_why.proofs.Passed.{begins, goes_on, has_room, is_over, stack_begins, stack_split}
 use Rattle.km_why.proofs.counts.count_stack.Goals as goal
 
 pub loop-i-init : goal.loop-i-init
-loop-i-init g c = (begins _ _ _ _ _ _ (told_same _) (stack_begins c.args.stack.0), λ members w. w)
+loop-i-init g c = (begins _ _ _ _ _ _ (told_same _) (stack_begins c.args.stack.0), λ members w. w, omega arith)
 
 pub count_word-requires-clause-room : goal.count_word-requires-clause-room
 count_word-requires-clause-room g c = has_room _ _ _ _ _ _ _ _ _ c.requires.room c.loop-i.invariant.0 (stack_split c.args.stack.0 c.loop-i.i c.loop-i-test.true)
@@ -13,6 +14,7 @@ pub loop-i-preserved : goal.loop-i-preserved
 loop-i-preserved g c = (
   goes_on _ _ _ _ _ _ _ _ _ _ _ c.loop-i.invariant.0 (stack_split c.args.stack.0 c.loop-i.i c.loop-i-test.true) c.count_word.ensures.counted c.count_word.ensures.long c.count_word.ensures.told,
   λ members w. c.count_word.ensures.waits members (c.loop-i.invariant.1 members w),
+  let was = c.loop-i.invariant.2 in let more = c.count_word.ensures.capacity in omega (arith, was, more),
 )
 
 pub returns-clause-counted : goal.returns-clause-counted

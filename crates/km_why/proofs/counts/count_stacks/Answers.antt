@@ -1,10 +1,11 @@
+use Rattle.std.proofs.Common.{arith}
 use Rattle.km_why.proofs.Walks.{told_same, told_then}
 use Rattle.km_why.proofs.Stacks.{fewer_tasks, next_laid, next_task, stacks_over}
 use Rattle.km_why.proofs.Passed.{begins, goes_on, has_room, is_over, tasks_begin, tasks_next}
 use Rattle.km_why.proofs.counts.count_stacks.Goals as goal
 
 pub loop-number-init : goal.loop-number-init
-loop-number-init g c = (told_same _, λ high numbers. begins _ _ _ _ _ _ (told_same _) (tasks_begin high c.args.tasks.now.tasks numbers), λ members w. w)
+loop-number-init g c = (told_same _, λ high numbers. begins _ _ _ _ _ _ (told_same _) (tasks_begin high c.args.tasks.now.tasks numbers), λ members w. w, omega arith)
 
 pub count_stack-requires-clause-within : goal.count_stack-requires-clause-within
 count_stack-requires-clause-within g c =
@@ -31,6 +32,7 @@ loop-number-preserved g c =
       λ high numbers. goes_on _ _ _ _ _ _ _ _ _ _ _ (c.loop-number.invariant.1 high numbers) (tasks_next high c.args.tasks.now.tasks c.loop-number.last c.in-Some.number c.in-Some.stack.start.0 numbers next)
           c.count_stack.ensures.counted c.count_stack.ensures.long c.count_stack.ensures.told,
       λ members w. c.count_stack.ensures.waits members (c.loop-number.invariant.2 members w),
+      let was = c.loop-number.invariant.3 in let more = c.count_stack.ensures.capacity in omega (arith, was, more),
     )
 
 pub returns-clause-counted : goal.returns-clause-counted

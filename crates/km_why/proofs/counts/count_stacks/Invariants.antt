@@ -1,4 +1,4 @@
-use Rattle.std.proofs.Common.{ℕ, ltb, List, length, flat_map, filter}
+use Rattle.std.proofs.Common.{◌≤◌, ℕ, ltb, List, length, flat_map, filter}
 use Rattle.std.specs.BinaryHeap.{heap_capacity, heap_items, heap_len}
 use Rattle.km_model.specs.Blocks.{Block}
 use Rattle.km_why.specs.Waiting.{AreWaiting}
@@ -16,6 +16,7 @@ invariant-loop-number g l =
     → IsCounting (g.W.Words.told l.fn.words) (g.W.Words.told l.words) (blocks_of l.track) (flat_map stack_words l.tasks.tasks) l.fn.counts.items l.counts.items (stacks_after l.tasks.tasks l.last))
     × ((members : List Block) → AreWaiting l.track.live l.fn.counts.items members (heap_items l.fn.waiting) (heap_len l.fn.waiting) (heap_capacity l.fn.waiting)
     → AreWaiting l.track.live l.counts.items members (heap_items l.waiting) (heap_len l.waiting) (heap_capacity l.waiting))
+    × (heap_capacity l.fn.waiting ≤ heap_capacity l.waiting)
 
 abbrev pub decreases-loop-number : goal.decreases-loop-number
 decreases-loop-number g l = length (filter (λ (t : Task). ltb l.last t.number) l.tasks.tasks)

@@ -1,4 +1,4 @@
-use Rattle.std.proofs.Common.{◌≡◌, ◌+◌, ◌^◌, ◌<◌, length, subst, sym, ap, ◌∙◌}
+use Rattle.std.proofs.Common.{◌+◌, ◌^◌, ◌<◌, length, subst, sym, ap, ◌∙◌}
 use Rattle.std.specs.BinaryHeap.{heap_capacity, heap_items, heap_len}
 use Rattle.km_model.specs.Memory.{index_of}
 use Rattle.km_why.specs.Counts.{count_at}
