@@ -1,8 +1,7 @@
 //! Why a block is held: the list that ends with it.
 
-ghost use Rattle.std.specs.Prelude.{IfOk, ◌≡◌, ◌≤◌, true, []};
+ghost use Rattle.std.specs.Prelude.{IfOk, ◌≡◌, ◌≤◌, []};
 ghost use Rattle.km_certificates.specs.Certificates.{is_held, list_of};
-ghost use Rattle.km_track.specs.Tracker.{is_live};
 ghost use Rattle.km_why.specs.Search.{members_in};
 ghost use Rattle.km_why.specs.Told.{AreLaidOut, TellsAll, TellsSame, blocks_of, memory_of, standing_of};
 
@@ -57,7 +56,7 @@ impl Why {
         })
     }
 
-    /// Whether a live block is held now. The members are then its list, and else all blocks that are held.
+    /// Whether a block is held now. The members are then its list, and else all blocks that are held.
     pub fn find<M: ObjectMap, W: Words>(
         &mut self,
         track: &Track<M>,
@@ -66,7 +65,6 @@ impl Why {
         words: &mut W,
         b: RecId,
     ) -> bool
-        requires live { is_live b track.now ≡ true }
         requires told { TellsAll (W.told words.old) }
         requires small { (W.told words.old).size ≤ 4194304 }
         requires laid { AreLaidOut (W.told words.old).size (blocks_of track.now) tasks.now.tasks }
