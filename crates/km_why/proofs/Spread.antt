@@ -1,9 +1,12 @@
 -- Live blocks that lie in a memory and never meet, and how few they are.
-use Rattle.std.proofs.Common.{◌≡◌, ℕ, zero, suc, ◌+◌, ◌*◌, ◌/◌, ◌<◌, ◌≤◌, Bool, true, false, ◌&&◌, ◌||◌, cond, leb, ltb, List, [], ◌∷◌, ◌++◌, length, map, filter, flat_map, refl, sym, ap, subst, arith, le-leb, lt-ltb, length-append}
+use Rattle.std.proofs.Common.{◌≡◌, ℕ, zero, suc, ◌+◌, ◌*◌, ◌/◌, ◌<◌, ◌≤◌, Bool, true, false, ◌&&◌, ◌||◌, cond, leb, ltb, List, [], ◌∷◌, ◌++◌, length, map, filter, flat_map, refl, sym, ◌∙◌, ap, subst, arith, le-leb, leb-true, lt-ltb, ltb-true, not, length-append}
 use Rattle.std.specs.List.{list_any}
-use Rattle.std.proofs.lemmas.Bool.{and_from}
+use Rattle.std.proofs.lemmas.Bool.{and_from, and_parts}
+use Rattle.km_base.specs.Spans.{untagged}
+use Rattle.km_base.specs.declared.spans.Span.{Span}
+use Rattle.km_model.proofs.Cases.{elim_false}
 use Rattle.km_model.proofs.Lists.{Each, Pairs, In, each_in, each_map, each_weaker, in_each, pairs_map}
-use Rattle.km_model.specs.Blocks.{Block, AtLeast, is_scanned, scanned_words}
+use Rattle.km_model.specs.Blocks.{Block, AtLeast, is_scanned, is_within, scanned_words}
 use Rattle.km_model.specs.Held.{Standing}
 use Rattle.km_model.specs.Memory.{base, index_of, words_from}
 use Rattle.km_model.specs.Tasks.{Task, in_stack}
@@ -11,7 +14,7 @@ use Rattle.km_state.specs.State.{blocks_in}
 use Rattle.km_track.specs.Tracker.{AreRising, Live, NeverMeet, Tracker}
 use Rattle.km_why.specs.declared.counts.Count.{Count}
 use Rattle.km_why.specs.Counts.{AreSpread}
-use Rattle.km_why.specs.References.{sources}
+use Rattle.km_why.specs.References.{has, refers_to, sources, span_of}
 use Rattle.km_why.specs.Told.{AreApart, AreLaidOut, IsInMemory, IsOfWords, blocks_of}
 use Rattle.km_why.proofs.Laid.{ids_rise}
 use Rattle.km_why.proofs.Passed.{placed}
@@ -104,3 +107,25 @@ few_blocks words bs within some apart =
   where
     few : (a b c d e f : ℕ) → a ≡ b → a ≤ c → c ≡ d → b ≡ e → f ≤ e → f ≤ d
     few a b c d e f g h i j k = omega (arith, g, h, i, j, k)
+
+-- what points out of the memory points into no block
+pub points_out : (words : ℕ) (t : Tracker) (a value target : ℕ) → AreSpread words t → target ≡ untagged value → is_within base (8 * words) target ≡ false
+    → (b : Block) (but : Span) → In b (blocks_of t) → refers_to (span_of b) but a value ≡ false
+points_out words t a value target s same out b but i =
+    elim (is_within b.start b.size (untagged value)) as (λ q. is_within b.start b.size (untagged value) ≡ q → ((q && not (has (span_of b) a)) && not (has but a)) ≡ false) [
+      | true ↦ λ e.
+          let low : b.start ≤ untagged value = leb-true b.start (untagged value) (and_parts (leb b.start (untagged value)) (ltb (untagged value) (b.start + b.size)) e).0 in
+          let high : untagged value < b.start + b.size = ltb-true (untagged value) (b.start + b.size) (and_parts (leb b.start (untagged value)) (ltb (untagged value) (b.start + b.size)) e).1 in
+          let within = each_in (λ (x : Block). IsInMemory words x.start x.size × IsOfWords x.start x.size) (blocks_of t) b s.within i in
+          let from : base ≤ b.start = within.0.0 in
+          let to : b.start + b.size ≤ base + 8 * words = within.0.1 in
+          absurd (elim_false (sym out ∙ ap (is_within base (8 * words)) same
+          ∙ and_from (leb base (untagged value)) (ltb (untagged value) (base + 8 * words)) (le-leb base (untagged value) (le_trans _ _ _ from low)) (lt-ltb (untagged value) (base + 8 * words) (lt_trans _ _ _ high to))))
+      | false ↦ λ _. refl
+    ] refl
+  where
+    le_trans : (l m n : ℕ) → l ≤ m → m ≤ n → l ≤ n
+    le_trans l m n e f = omega (arith, e, f)
+
+    lt_trans : (l m n : ℕ) → l < m → m ≤ n → l < n
+    lt_trans l m n e f = omega (arith, e, f)

@@ -1,9 +1,9 @@
 //! The references to each block that were found so far.
 
-ghost use Rattle.std.specs.Prelude.{IfOk, ◌≡◌, ℕ, ◌+◌, ◌<◌, ◌≤◌, ◌^◌, false, true, List, [], ◌∷◌, ◌++◌, length, slice_set, flat_map, option_map, IfSome, IfNone};
+ghost use Rattle.std.specs.Prelude.{IfOk, ◌≡◌, ℕ, ◌+◌, ◌*◌, ◌<◌, ◌≤◌, ◌^◌, false, true, List, [], ◌∷◌, ◌++◌, length, slice_set, flat_map, option_map, IfSome, IfNone};
 ghost use Rattle.km_model.specs.Memory.{base, in_memory as is_word, index_of, words_from};
 ghost use Rattle.km_base.specs.declared.spans.Span.{Span as Bytes};
-ghost use Rattle.km_model.specs.Blocks.{Block, block_at, scanned_words};
+ghost use Rattle.km_model.specs.Blocks.{Block, block_at, is_within, scanned_words};
 ghost use Rattle.km_model.specs.Members.{Each, In, Pairs};
 ghost use Rattle.km_model.specs.Scan.{excess_block};
 ghost use Rattle.km_model.specs.Tasks.{Task, stack_words};
@@ -153,15 +153,30 @@ fn beginning_at<M: ObjectMap>(track: &Track<M>, start: Addr) -> Option<(RecId, &
     Some((id, record))
 }
 
-/// The block into which a word at an address points from outside.
-fn referred<M: ObjectMap>(track: &Track<M>, a: Addr, value: u64) -> Option<(RecId, &Record)>
-    requires rise { Pairs (λ (b c : Block). b.id < c.id) (blocks_of track.now) }
-    requires apart { Pairs (λ (b c : Block). AreApart b.start b.size c.start c.size) (blocks_of track.now) }
+/// Whether a byte is in a memory of so many words.
+fn is_inside(words: u64, a: u64) -> bool
+    ensures { result ≡ is_within base (8 * words) a }
+{
+    BASE <= a && (a - BASE) / 8 < words
+}
+
+/// The block into which a word at an address points from outside, in a memory of so many words.
+fn referred<M: ObjectMap>(
+    track: &Track<M>,
+    words: u64,
+    a: Addr,
+    value: u64,
+) -> Option<(RecId, &Record)>
+    requires { AreSpread words track.now }
     ensures some { IfSome result (λ r. IsReferred (blocks_of track.now) a.0 value r.1.now) }
     ensures there { IfSome result (λ r. In (live_as r.0 r.1.now) track.now.live × AreRising 0 track.now.live track.now.registered) }
     ensures none { IfNone result ((c : Block) (but : Bytes) → In c (blocks_of track.now) → refers_to (span_of c) but a.0 value ≡ false) }
 {
-    let Some(id) = track.look(Addr(untag(value))) else {
+    let target = untag(value);
+    if !is_inside(words, target) {
+        return None;
+    }
+    let Some(id) = track.look(Addr(target)) else {
         return None;
     };
     let Some(block) = track.record(id) else {
@@ -226,7 +241,7 @@ fn count_word<M: ObjectMap, W: Words>(
     ensures told { TellsSame (W.told words.old) (W.told words.new) }
 {
     let value = words.load(a);
-    if let Some((id, block)) = referred(track, a, value) {
+    if let Some((id, block)) = referred(track, words.words(), a, value) {
         hit(counts, waiting, track, a, id, block);
     }
 }
