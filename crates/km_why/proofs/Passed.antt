@@ -1,9 +1,7 @@
 -- Walks over words that are counted.
-use Rattle.std.proofs.Common.{append-nil, ◌≡◌, ℕ, zero, suc, ◌+◌, ◌-◌, ◌*◌, ◌/◌, ◌^◌, ◌<◌, ◌≤◌, Bool, true, false, cond, leb, ltb, List, [], ◌∷◌, ◌++◌, length, Some, None, find, filter, flat_map, refl, sym, ◌∙◌, ap, subst, arith, le-leb, leb-true, ltb-true, lt-ltb, length-append}
-use Rattle.std.proofs.lemmas.Bool.{lt-leb}
+use Rattle.std.proofs.Common.{append-nil, ◌≡◌, ℕ, ◌+◌, ◌-◌, ◌*◌, ◌/◌, ◌^◌, ◌<◌, ◌≤◌, leb, ltb, List, [], ◌∷◌, ◌++◌, length, Some, None, find, filter, flat_map, refl, sym, ◌∙◌, ap, subst, arith, lt-ltb, length-append}
 use Rattle.std.proofs.lemmas.List.{append_assoc}
-use Rattle.km_model.proofs.Lists.{In, Each, each_in, each_weaker, find_in}
-use Rattle.km_model.proofs.Cases.{elim_false, none_some, some_same}
+use Rattle.km_model.proofs.Lists.{In, Each, each_in, each_weaker}
 use Rattle.km_model.specs.Memory.{base, index_of, words_from}
 use Rattle.km_model.specs.Blocks.{Block, is_scanned, scanned_words}
 use Rattle.km_model.specs.Tasks.{Task, stack_words}
@@ -11,7 +9,7 @@ use Rattle.km_tasks.specs.Lives.{AreNumbered}
 use Rattle.km_track.specs.Tracker.{Tracker}
 use Rattle.km_words.specs.Told.{Told}
 use Rattle.km_why.specs.Told.{IsInMemory, IsOfWords, TellsSame, blocks_of, memory_of}
-use Rattle.km_why.proofs.Walks.{memory_same, rest, rest_of_stack, stacks_after, tasks_split}
+use Rattle.km_why.proofs.Walks.{above, memory_same, none_left, rest, rest_of, rest_of_stack, stacks_after, tasks_split, words_next}
 use Rattle.km_why.proofs.Stacks.{IsNext}
 use Rattle.km_why.specs.declared.counts.Count.{Count}
 use Rattle.km_why.specs.Counts.{AreCounted, AreSpread, HaveRoom, count_at}
@@ -78,47 +76,6 @@ spread_same t u tracker same s = subst (λ n. AreSpread n tracker) (sym same.siz
 pub long_same : (t u : Told) (old now : List Count) → TellsSame t u → length now ≡ length old → t.size ≤ length old → u.size ≤ length now
 long_same t u old now same long le = let e = same.size in omega (arith, e, long, le)
 
--- words from an address on are no lower
-above : (p : ℕ → Bool) (n z x : ℕ) → x ≤ z → filter (leb x) (filter p (words_from n z)) ≡ filter p (words_from n z)
-above p zero z x le = refl
-above p (suc n) z x le =
-    elim (p z) as (λ q. filter (leb x) (cond q (z ∷ filter p (words_from n (z + 8))) (filter p (words_from n (z + 8)))) ≡ cond q (z ∷ filter p (words_from n (z + 8))) (filter p (words_from n (z + 8)))) [
-      | true ↦ rw (le-leb x z le) (ap (λ ws. z ∷ ws) (above p n (z + 8) x (omega (arith, le))))
-      | false ↦ above p n (z + 8) x (omega (arith, le))
-    ]
-
-not_below : (x z : ℕ) → leb x z ≡ false → z < x
-not_below x z e = elim (ltb z x) as (λ q. ltb z x ≡ q → z < x) [ true ↦ λ f. ltb-true z x f | false ↦ λ f. absurd (elim_false (sym e ∙ le-leb x z (let le : x ≤ z = above_it f in le))) ] refl
-  where
-    above_it : ltb z x ≡ false → x ≤ z
-    above_it f = leb-true x z (grind arith)
-
--- the words that pass, from one on
-module _ (p : ℕ → Bool) where
-  rest_of : (n z x a : ℕ) → find (leb x) (filter p (words_from n z)) ≡ Some a → filter (leb x) (filter p (words_from n z)) ≡ a ∷ filter (leb (a + 8)) (filter p (words_from n z))
-  rest_of zero z x a e = absurd (none_some a e)
-  rest_of (suc n) z x a e = go (rest_of n (z + 8) x a) (p z) e
-    where
-      ws : List ℕ
-      ws = filter p (words_from n (z + 8))
-
-      first : (find (leb x) ws ≡ Some a → filter (leb x) ws ≡ a ∷ filter (leb (a + 8)) ws) → (q : Bool) → leb x z ≡ q → cond q (Some z) (find (leb x) ws) ≡ Some a
-          → cond q (z ∷ filter (leb x) ws) (filter (leb x) ws) ≡ a ∷ cond (leb (a + 8) z) (z ∷ filter (leb (a + 8)) ws) (filter (leb (a + 8)) ws)
-      first rest true f g =
-          let same : z ≡ a = some_same z a g in
-          let le : x ≤ z = leb-true x z f in
-          subst (λ b. z ∷ filter (leb x) ws ≡ b ∷ cond (leb (b + 8) z) (z ∷ filter (leb (b + 8)) ws) (filter (leb (b + 8)) ws)) same
-          (rw (lt-leb (z + 8) z (omega arith)) (ap (λ vs. z ∷ vs) (above p n (z + 8) x (omega (arith, le)) ∙ sym (above p n (z + 8) (z + 8) (omega arith)))))
-      first rest false f g =
-          let low : z < x = not_below x z f in
-          let le : x ≤ a = leb-true x a (find_in (leb x) ws a g).0 in
-          rw (lt-leb (a + 8) z (omega (arith, low, le))) (rest g)
-
-      go : (find (leb x) ws ≡ Some a → filter (leb x) ws ≡ a ∷ filter (leb (a + 8)) ws) → (q : Bool) → find (leb x) (cond q (z ∷ ws) ws) ≡ Some a
-          → filter (leb x) (cond q (z ∷ ws) ws) ≡ a ∷ filter (leb (a + 8)) (cond q (z ∷ ws) ws)
-      go rest true f = first rest (leb x z) refl f
-      go rest false f = rest f
-
 pub block_begins : (b : Block) → scanned_words b ≡ rest b 0
 block_begins b = sym (above (is_scanned b) (b.size / 8) b.start (b.start + 8 * 0) (omega arith))
 
@@ -129,24 +86,10 @@ block_split b from i e =
     rest_of (is_scanned b) (b.size / 8) b.start (b.start + 8 * from) (b.start + 8 * i) (sym e) ∙ ap (λ x. (b.start + 8 * i) ∷ filter (leb x) (scanned_words b)) next
 
 pub block_over : (b : Block) (from : ℕ) → None ≡ find (leb (b.start + 8 * from)) (scanned_words b) → rest b from ≡ []
-block_over b from e = go (scanned_words b) (sym e)
-  where
-    x : ℕ
-    x = b.start + 8 * from
-
-    go : (ws : List ℕ) → find (leb x) ws ≡ None → filter (leb x) ws ≡ []
-    go [] f = refl
-    go (w ∷ ws) f = elim (leb x w) as (λ q. cond q (Some w) (find (leb x) ws) ≡ None → cond q (w ∷ filter (leb x) ws) (filter (leb x) ws) ≡ []) [
-      | true ↦ λ g. absurd (none_some w (sym g))
-      | false ↦ λ g. go ws g
-    ] f
+block_over b from e = none_left (is_scanned b) (b.size / 8) b.start (b.start + 8 * from) (sym e)
 
 pub stack_begins : (stack : ℕ) → words_from 512 stack ≡ rest_of_stack stack 0
 stack_begins stack = ap (λ x. words_from 512 x) (let e : stack ≡ stack + 8 * 0 = omega arith in e)
-
-words_next : (n start : ℕ) → 0 < n → words_from n start ≡ start ∷ words_from (n - 1) (start + 8)
-words_next zero start pos = absurd (omega (arith, pos))
-words_next (suc n) start pos = ap (λ k. start ∷ words_from k (start + 8)) (let e : n ≡ suc n - 1 = omega arith in e)
 
 pub stack_split : (stack i : ℕ) → i < 512 → rest_of_stack stack i ≡ ((stack + 8 * i) ∷ []) ++ rest_of_stack stack (i + 1)
 stack_split stack i lt =

@@ -40,7 +40,7 @@ references_append memory target but xs ys =
     ap length (filter-append (λ x. refers_to target but x (word_at memory x)) xs ys) ∙ length-append (filter (λ x. refers_to target but x (word_at memory x)) xs) (filter (λ x. refers_to target but x (word_at memory x)) ys)
 
 -- words from an address on are no lower
-above : (p : ℕ → Bool) (n z x : ℕ) → x ≤ z → filter (leb x) (filter p (words_from n z)) ≡ filter p (words_from n z)
+pub above : (p : ℕ → Bool) (n z x : ℕ) → x ≤ z → filter (leb x) (filter p (words_from n z)) ≡ filter p (words_from n z)
 above p zero z x le = refl
 above p (suc n) z x le =
     elim (p z) as (λ q. filter (leb x) (cond q (z ∷ filter p (words_from n (z + 8))) (filter p (words_from n (z + 8)))) ≡ cond q (z ∷ filter p (words_from n (z + 8))) (filter p (words_from n (z + 8)))) [
@@ -56,7 +56,7 @@ not_below x z e = elim (ltb z x) as (λ q. ltb z x ≡ q → z < x) [ true ↦ �
 
 -- the words that pass, from one on
 module _ (p : ℕ → Bool) where
-  rest_of : (n z x a : ℕ) → find (leb x) (filter p (words_from n z)) ≡ Some a → filter (leb x) (filter p (words_from n z)) ≡ a ∷ filter (leb (a + 8)) (filter p (words_from n z))
+  pub rest_of : (n z x a : ℕ) → find (leb x) (filter p (words_from n z)) ≡ Some a → filter (leb x) (filter p (words_from n z)) ≡ a ∷ filter (leb (a + 8)) (filter p (words_from n z))
   rest_of zero z x a e = absurd (none_some a e)
   rest_of (suc n) z x a e = go (rest_of n (z + 8) x a) (p z) e
     where
@@ -80,7 +80,7 @@ module _ (p : ℕ → Bool) where
       go rest true f = first rest (leb x z) refl f
       go rest false f = rest f
 
-  none_left : (n z x : ℕ) → find (leb x) (filter p (words_from n z)) ≡ None → filter (leb x) (filter p (words_from n z)) ≡ []
+  pub none_left : (n z x : ℕ) → find (leb x) (filter p (words_from n z)) ≡ None → filter (leb x) (filter p (words_from n z)) ≡ []
   none_left n z x e = go (filter p (words_from n z)) e
     where
       go : (ws : List ℕ) → find (leb x) ws ≡ None → filter (leb x) ws ≡ []
@@ -148,7 +148,7 @@ memory_same t u s = ap (λ (o : Option (List ℕ)). elim o as (λ _. List ℕ) [
 abbrev pub rest_of_stack : ℕ → ℕ → List ℕ
 rest_of_stack stack i = words_from (512 - i) (stack + 8 * i)
 
-words_next : (n start : ℕ) → 0 < n → words_from n start ≡ start ∷ words_from (n - 1) (start + 8)
+pub words_next : (n start : ℕ) → 0 < n → words_from n start ≡ start ∷ words_from (n - 1) (start + 8)
 words_next zero start pos = absurd (omega (arith, pos))
 words_next (suc n) start pos = ap (λ k. start ∷ words_from k (start + 8)) (let e : n ≡ suc n - 1 = omega arith in e)
 
