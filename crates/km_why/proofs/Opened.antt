@@ -10,7 +10,7 @@ use Rattle.km_why.specs.declared.search.Search.{Search}
 use Rattle.km_why.specs.Counts.{AreCounted, HaveRoom}
 use Rattle.km_why.specs.Search.{CanSearch, HasListed, HasPlaces}
 use Rattle.km_why.specs.Told.{AreLaidOut, TellsAll, blocks_of, memory_of, stacks_of, standing_of}
-use Rattle.km_why.specs.Waiting.{AreWaiting, HaveMembers, first_comes_first}
+use Rattle.km_why.specs.Waiting.{AreWaiting, CanCount, HaveMembers, first_comes_first}
 use Rattle.km_why.proofs.Begun.{none_wait}
 use Rattle.km_why.proofs.Spread.{few_blocks, few_sources, spread_laid}
 use Rattle.km_why.proofs.Tested.{source_of}
@@ -81,6 +81,10 @@ module _ (u : Told) (t : Tracker) (tasks : List Task) (told : TellsAll u) (small
       where
         few_are : (a b c d : ℕ) → b ≡ a → b ≤ c → d ≡ c → d ≤ 4194304 → 0 + a ≤ 2 ^ 30
         few_are a b c d e f g h = omega (arith, e, f, g, h)
+
+    -- so they can be counted
+    pub may_count : CanCount u t s.counts.items (heap_items s.waiting) (heap_len s.waiting) (heap_capacity s.waiting) (flat_map stack_words tasks)
+    may_count = record { told = told; spread = can.spread; long = places.counts; room = stacks_fit; waits = may_wait }
 
     -- and their references are counted
     pub begun_with : (stacks : Bool) → stacks ≡ true → (v : Search) → ((ws : List ℕ) → AreCounted (memory_of u) (blocks_of t) ws s.counts.items → AreCounted (memory_of u) (blocks_of t) (ws ++ flat_map stack_words tasks) v.counts.items)

@@ -1,5 +1,5 @@
 -- Places of live blocks, and which wait once a head may pass on one more.
-use Rattle.std.proofs.Common.{◌≡◌, ℕ, ◌+◌, ◌<◌, ◌==◌, inl, inr, true, false, ◌&&◌, ◌||◌, not, List, [], ◌∷◌, length, map, filter, sum_by, refl, sym, ◌∙◌, ap, subst, eqb-true, if◌then◌else◌}
+use Rattle.std.proofs.Common.{◌≡◌, ℕ, ◌+◌, ◌<◌, ◌==◌, inl, inr, true, false, ◌&&◌, ◌||◌, not, List, [], ◌∷◌, ◌++◌, length, map, filter, sum_by, refl, sym, ◌∙◌, ap, subst, eqb-true, if◌then◌else◌}
 use Rattle.std.specs.List.{list_any}
 use Rattle.km_model.proofs.Lists.{In, each_weaker}
 use Rattle.km_model.specs.Blocks.{Block, needs}
@@ -8,12 +8,14 @@ use Rattle.km_record.specs.declared.kinds.RecId.{RecId}
 use Rattle.km_record.specs.declared.record.Record.{Record}
 use Rattle.km_state.specs.State.{blocks_in}
 use Rattle.km_track.specs.Tracker.{AreRising, Live, Tracker, id_of}
+use Rattle.km_words.specs.Told.{Told}
 use Rattle.km_why.specs.Told.{blocks_of}
 use Rattle.km_why.specs.declared.counts.Count.{Count}
 use Rattle.km_why.specs.Counts.{AreSpread, added, count_at}
-use Rattle.km_why.specs.Waiting.{ArePlaced, AreWaiting, CanWait, Key, is_ripe, is_waiting, key_of}
+use Rattle.km_why.specs.Waiting.{ArePlaced, AreWaiting, CanCount, CanWait, Key, is_ripe, is_waiting, key_of}
 use Rattle.km_why.proofs.Counted.{at_place, same_place}
-use Rattle.km_why.proofs.Passed.{all_aligned}
+use Rattle.km_why.proofs.Passed.{IsCounting, all_aligned, has_room, long_same, spread_same}
+use Rattle.km_why.proofs.Stacks.{tells_after}
 use Rattle.km_why.proofs.Raised.{ripe_with}
 
 pub in_blocks : (ls : List Live) (y : Live) → In y ls → In y.tracked.block (blocks_in (map (λ (l : Live). l.tracked) ls))
@@ -65,4 +67,16 @@ can_wait_added cs p keys len capacity id r lt w = record {
   placed = w.placed;
   there = w.there;
   members = record { members = w.members.members; waiting = added_waits w.live cs p w.members.members keys len capacity lt w.members.waiting };
+}
+
+-- the next words can be counted
+pub can_go_on : (t u : Told) (tracker : Tracker) (all : List ℕ) (old now : List Count) (left xs more : List ℕ) (keys keys' : List Key) (len len' capacity capacity' : ℕ)
+    → CanCount t tracker old keys len capacity all → IsCounting t u (blocks_of tracker) all old now left → left ≡ xs ++ more
+    → ((members : List Block) → AreWaiting tracker.live old members keys len capacity → AreWaiting tracker.live now members keys' len' capacity') → CanCount u tracker now keys' len' capacity' xs
+can_go_on t u tracker all old now left xs more keys keys' len len' capacity capacity' can w e waits = record {
+  told = tells_after t u can.told w.told;
+  spread = spread_same t u tracker w.told can.spread;
+  long = long_same t u old now w.told w.long can.long;
+  room = has_room t u (blocks_of tracker) all old now left xs more can.room w e;
+  waits = record { members = can.waits.members; waiting = waits can.waits.members can.waits.waiting };
 }

@@ -10,9 +10,11 @@ use Rattle.km_model.specs.Members.{Each, In}
 use Rattle.km_model.specs.Memory.{index_of}
 use Rattle.km_record.specs.declared.kinds.RecId.{RecId}
 use Rattle.km_record.specs.declared.record.Record.{Record}
-use Rattle.km_track.specs.Tracker.{AreRising, Live, id_of, tracked_of}
+use Rattle.km_track.specs.Tracker.{AreRising, Live, Tracker, id_of, tracked_of}
+use Rattle.km_words.specs.Told.{Told}
 use Rattle.km_why.specs.declared.counts.Count.{Count}
-use Rattle.km_why.specs.Counts.{count_at}
+use Rattle.km_why.specs.Counts.{AreSpread, HaveRoom, count_at}
+use Rattle.km_why.specs.Told.{TellsAll, blocks_of, memory_of}
 
 -- what a heap keeps of a block
 abbrev pub Key : Type 0
@@ -84,3 +86,12 @@ pub record IsFirst (live : List Live) (counts : List Count) (members : List Bloc
 pub record IsTaken (live : List Live) (counts : List Count) (members : List Block) (keys : List Key) (len capacity : ℕ) (key : Key) : Type 0 where
   pub first : IsFirst live counts members key
   pub waiting : AreWaiting live counts (members ++ first.it.tracked.block ∷ []) keys len capacity
+
+-- some more words can be counted: they are told, the live blocks lie in their memory, the table has a place for each
+-- word, and there is room in each count and in the heap
+pub record CanCount (u : Told) (t : Tracker) (counts : List Count) (keys : List Key) (len capacity : ℕ) (more : List ℕ) : Type 0 where
+  pub told : TellsAll u
+  pub spread : AreSpread u.size t
+  pub long : u.size ≤ length counts
+  pub room : HaveRoom (memory_of u) (blocks_of t) counts more
+  pub waits : HaveMembers t.live counts keys len capacity

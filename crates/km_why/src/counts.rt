@@ -10,9 +10,9 @@ ghost use Rattle.km_model.specs.Tasks.{Task, stack_words};
 ghost use Rattle.km_record.specs.Records.{IsLaid, IsSound, block_of};
 ghost use Rattle.std.specs.BinaryHeap.{heap_capacity, heap_items, heap_len};
 ghost use Rattle.km_track.specs.Tracker.{AreRising, Live, NeverMeet};
-ghost use Rattle.km_why.specs.Waiting.{ArePlaced, AreWaiting, CanWait, HaveMembers, live_as};
-ghost use Rattle.km_why.specs.Told.{AreApart, IsInMemory, IsOfWords, TellsAll, TellsSame, blocks_of, memory_of};
-ghost use Rattle.km_why.specs.Counts.{AreCounted, AreSpread, HaveRoom, IsReferred, added, count_at, counted_in, none_found, passed_in, raised};
+ghost use Rattle.km_why.specs.Waiting.{ArePlaced, AreWaiting, CanCount, CanWait, HaveMembers, live_as};
+ghost use Rattle.km_why.specs.Told.{IsInMemory, IsOfWords, TellsSame, blocks_of, memory_of};
+ghost use Rattle.km_why.specs.Counts.{AreCounted, AreSpread, IsReferred, added, count_at, counted_in, none_found, passed_in, raised};
 ghost use Rattle.km_why.specs.References.{refers_to, span_of};
 
 use crate::lacking::has;
@@ -228,12 +228,8 @@ fn count_word<M: ObjectMap, W: Words>(
     words: &mut W,
     a: Addr,
 )
-    requires told { TellsAll (W.told words.old) }
+    requires can { CanCount (W.told words.old) track.now counts.old.items (heap_items waiting.old) (heap_len waiting.old) (heap_capacity waiting.old) (a.0 ∷ []) }
     requires word { is_word (W.told words.old).size a.0 ≡ true }
-    requires spread { AreSpread (W.told words.old).size track.now }
-    requires long { (W.told words.old).size ≤ length counts.old.items }
-    requires room { HaveRoom (memory_of (W.told words.old)) (blocks_of track.now) counts.old.items (a.0 ∷ []) }
-    requires waits { HaveMembers track.now.live counts.old.items (heap_items waiting.old) (heap_len waiting.old) (heap_capacity waiting.old) }
     ensures counted { (ws : List ℕ) → AreCounted (memory_of (W.told words.old)) (blocks_of track.now) ws counts.old.items → AreCounted (memory_of (W.told words.old)) (blocks_of track.now) (ws ++ a.0 ∷ []) counts.new.items }
     ensures long { length counts.new.items ≡ length counts.old.items }
     ensures waits { (members : List Block) → AreWaiting track.now.live counts.old.items members (heap_items waiting.old) (heap_len waiting.old) (heap_capacity waiting.old) → AreWaiting track.now.live counts.new.items members (heap_items waiting.new) (heap_len waiting.new) (heap_capacity waiting.new) }
@@ -254,14 +250,10 @@ pub fn count_block<M: ObjectMap, W: Words>(
     words: &mut W,
     block: &Record,
 )
-    requires told { TellsAll (W.told words.old) }
+    requires can { CanCount (W.told words.old) track.now counts.old.items (heap_items waiting.old) (heap_len waiting.old) (heap_capacity waiting.old) (scanned_words (block_of 0 block.now)) }
     requires sound { IsSound block.now }
     requires within { IsInMemory (W.told words.old).size block.now.span.start.0 block.now.span.size }
     requires aligned { IsOfWords block.now.span.start.0 block.now.span.size }
-    requires spread { AreSpread (W.told words.old).size track.now }
-    requires long { (W.told words.old).size ≤ length counts.old.items }
-    requires room { HaveRoom (memory_of (W.told words.old)) (blocks_of track.now) counts.old.items (scanned_words (block_of 0 block.now)) }
-    requires waits { HaveMembers track.now.live counts.old.items (heap_items waiting.old) (heap_len waiting.old) (heap_capacity waiting.old) }
     ensures counted { (ws : List ℕ) → AreCounted (memory_of (W.told words.old)) (blocks_of track.now) ws counts.old.items → AreCounted (memory_of (W.told words.old)) (blocks_of track.now) (ws ++ scanned_words (block_of 0 block.now)) counts.new.items }
     ensures long { length counts.new.items ≡ length counts.old.items }
     ensures waits { (members : List Block) → AreWaiting track.now.live counts.old.items members (heap_items waiting.old) (heap_len waiting.old) (heap_capacity waiting.old) → AreWaiting track.now.live counts.new.items members (heap_items waiting.new) (heap_len waiting.new) (heap_capacity waiting.new) }
@@ -289,14 +281,10 @@ fn count_stack<M: ObjectMap, W: Words>(
     words: &mut W,
     stack: Addr,
 )
-    requires told { TellsAll (W.told words.old) }
+    requires can { CanCount (W.told words.old) track.now counts.old.items (heap_items waiting.old) (heap_len waiting.old) (heap_capacity waiting.old) (words_from 512 stack.0) }
     requires within { IsInMemory (W.told words.old).size stack.0 4096 }
     requires aligned { IsOfWords stack.0 4096 }
     requires small { (W.told words.old).size ≤ 4194304 }
-    requires spread { AreSpread (W.told words.old).size track.now }
-    requires long { (W.told words.old).size ≤ length counts.old.items }
-    requires room { HaveRoom (memory_of (W.told words.old)) (blocks_of track.now) counts.old.items (words_from 512 stack.0) }
-    requires waits { HaveMembers track.now.live counts.old.items (heap_items waiting.old) (heap_len waiting.old) (heap_capacity waiting.old) }
     ensures counted { (ws : List ℕ) → AreCounted (memory_of (W.told words.old)) (blocks_of track.now) ws counts.old.items → AreCounted (memory_of (W.told words.old)) (blocks_of track.now) (ws ++ words_from 512 stack.0) counts.new.items }
     ensures long { length counts.new.items ≡ length counts.old.items }
     ensures waits { (members : List Block) → AreWaiting track.now.live counts.old.items members (heap_items waiting.old) (heap_len waiting.old) (heap_capacity waiting.old) → AreWaiting track.now.live counts.new.items members (heap_items waiting.new) (heap_len waiting.new) (heap_capacity waiting.new) }
@@ -316,13 +304,9 @@ pub fn count_stacks<M: ObjectMap, W: Words>(
     tasks: &Tasks,
     words: &mut W,
 )
-    requires told { TellsAll (W.told words.old) }
+    requires can { CanCount (W.told words.old) track.now counts.old.items (heap_items waiting.old) (heap_len waiting.old) (heap_capacity waiting.old) (flat_map stack_words tasks.now.tasks) }
     requires within { Each (λ (t : Task). IsInMemory (W.told words.old).size t.stack 4096 × IsOfWords t.stack 4096) tasks.now.tasks }
     requires small { (W.told words.old).size ≤ 4194304 }
-    requires spread { AreSpread (W.told words.old).size track.now }
-    requires long { (W.told words.old).size ≤ length counts.old.items }
-    requires room { HaveRoom (memory_of (W.told words.old)) (blocks_of track.now) counts.old.items (flat_map stack_words tasks.now.tasks) }
-    requires waits { HaveMembers track.now.live counts.old.items (heap_items waiting.old) (heap_len waiting.old) (heap_capacity waiting.old) }
     ensures counted { (ws : List ℕ) → AreCounted (memory_of (W.told words.old)) (blocks_of track.now) ws counts.old.items → AreCounted (memory_of (W.told words.old)) (blocks_of track.now) (ws ++ flat_map stack_words tasks.now.tasks) counts.new.items }
     ensures long { length counts.new.items ≡ length counts.old.items }
     ensures waits { (members : List Block) → AreWaiting track.now.live counts.old.items members (heap_items waiting.old) (heap_len waiting.old) (heap_capacity waiting.old) → AreWaiting track.now.live counts.new.items members (heap_items waiting.new) (heap_len waiting.new) (heap_capacity waiting.new) }

@@ -1,14 +1,15 @@
 use Rattle.std.proofs.Common.{arith}
 use Rattle.km_why.proofs.Walks.{told_same}
 use Rattle.km_why.proofs.Stacks.{stack_over}
-use Rattle.km_why.proofs.Passed.{begins, goes_on, has_room, is_over, stack_begins, stack_split}
+use Rattle.km_why.proofs.Placed.{can_go_on}
+use Rattle.km_why.proofs.Passed.{begins, goes_on, is_over, stack_begins, stack_split}
 use Rattle.km_why.proofs.counts.count_stack.Goals as goal
 
 pub loop-i-init : goal.loop-i-init
 loop-i-init g c = (begins _ _ _ _ _ _ (told_same _) (stack_begins c.args.stack.0), λ members w. w, omega arith)
 
-pub count_word-requires-clause-room : goal.count_word-requires-clause-room
-count_word-requires-clause-room g c = has_room _ _ _ _ _ _ _ _ _ c.requires.room c.loop-i.invariant.0 (stack_split c.args.stack.0 c.loop-i.i c.loop-i-test.true)
+pub count_word-requires-clause-can : goal.count_word-requires-clause-can
+count_word-requires-clause-can g c = can_go_on _ _ c.args.track.now _ _ _ _ _ _ _ _ _ _ _ _ c.requires.can c.loop-i.invariant.0 (stack_split c.args.stack.0 c.loop-i.i c.loop-i-test.true) c.loop-i.invariant.1
 
 pub loop-i-preserved : goal.loop-i-preserved
 loop-i-preserved g c = (
@@ -19,6 +20,3 @@ loop-i-preserved g c = (
 
 pub returns-clause-counted : goal.returns-clause-counted
 returns-clause-counted g c = is_over _ _ _ _ _ _ _ c.loop-i.invariant.0 (stack_over c.args.stack.0 c.loop-i.i c.loop-i-test.false)
-
-pub count_word-requires-clause-waits : goal.count_word-requires-clause-waits
-count_word-requires-clause-waits g c = record { members = c.requires.waits.members; waiting = c.loop-i.invariant.1 c.requires.waits.members c.requires.waits.waiting }

@@ -1,7 +1,8 @@
 use Rattle.std.proofs.Common.{arith}
 use Rattle.km_why.proofs.Walks.{told_same, told_then}
 use Rattle.km_why.proofs.Stacks.{fewer_tasks, next_laid, next_task, stacks_over}
-use Rattle.km_why.proofs.Passed.{begins, goes_on, has_room, is_over, tasks_begin, tasks_next}
+use Rattle.km_why.proofs.Placed.{can_go_on}
+use Rattle.km_why.proofs.Passed.{begins, goes_on, is_over, tasks_begin, tasks_next}
 use Rattle.km_why.proofs.counts.count_stacks.Goals as goal
 
 pub loop-number-init : goal.loop-number-init
@@ -15,11 +16,11 @@ pub count_stack-requires-clause-aligned : goal.count_stack-requires-clause-align
 count_stack-requires-clause-aligned g c =
     (next_laid _ _ _ c.loop-number.last _ _ (next_task c.args.tasks.now.tasks c.loop-number.last c.in-Some.number c.in-Some.stack.start.0 c.in-Some.ensures.number c.in-Some.ensures.stack) c.loop-number.invariant.0 c.requires.within).1
 
-pub count_stack-requires-clause-room : goal.count_stack-requires-clause-room
-count_stack-requires-clause-room g c =
-    has_room _ _ _ _ _ _ _ _ _ c.requires.room (c.loop-number.invariant.1 _ c.in-Some.ensures.numbers)
+pub count_stack-requires-clause-can : goal.count_stack-requires-clause-can
+count_stack-requires-clause-can g c =
+    can_go_on _ _ c.args.track.now _ _ _ _ _ _ _ _ _ _ _ _ c.requires.can (c.loop-number.invariant.1 _ c.in-Some.ensures.numbers)
     (tasks_next _ c.args.tasks.now.tasks c.loop-number.last c.in-Some.number c.in-Some.stack.start.0 c.in-Some.ensures.numbers
-    (next_task c.args.tasks.now.tasks c.loop-number.last c.in-Some.number c.in-Some.stack.start.0 c.in-Some.ensures.number c.in-Some.ensures.stack))
+    (next_task c.args.tasks.now.tasks c.loop-number.last c.in-Some.number c.in-Some.stack.start.0 c.in-Some.ensures.number c.in-Some.ensures.stack)) c.loop-number.invariant.2
 
 pub loop-number-smaller : goal.loop-number-smaller
 loop-number-smaller g c =
@@ -37,6 +38,3 @@ loop-number-preserved g c =
 
 pub returns-clause-counted : goal.returns-clause-counted
 returns-clause-counted g c = is_over _ _ _ _ _ _ _ (c.loop-number.invariant.1 _ c.in_default.ensures.numbers) (stacks_over c.args.tasks.now.tasks c.loop-number.last c.in_default.ensures.number)
-
-pub count_stack-requires-clause-waits : goal.count_stack-requires-clause-waits
-count_stack-requires-clause-waits g c = record { members = c.requires.waits.members; waiting = c.loop-number.invariant.2 c.requires.waits.members c.requires.waits.waiting }

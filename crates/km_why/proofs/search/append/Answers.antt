@@ -21,14 +21,14 @@ count_block-requires-clause-within g c = (is_laid _ _ _ c.in-Some.block.now c.re
 pub count_block-requires-clause-aligned : goal.count_block-requires-clause-aligned
 count_block-requires-clause-aligned g c = (is_laid _ _ _ c.in-Some.block.now c.requires.can c.in-Some.ensures.block).1
 
-pub count_block-requires-clause-long : goal.count_block-requires-clause-long
-count_block-requires-clause-long g c = has_places _ _ _ c.in-Some.block.now c.requires.can c.in-Some.ensures.block _ _ _ _ c.requires.next.there c.requires.next.state
-
-pub count_block-requires-clause-room : goal.count_block-requires-clause-room
-count_block-requires-clause-room g c = can_count _ _ _ c.in-Some.block.now c.requires.can c.in-Some.ensures.block _ _ _ _ c.requires.next.there c.requires.next.state
-
-pub count_block-requires-clause-waits : goal.count_block-requires-clause-waits
-count_block-requires-clause-waits g c = have_members _ _ _ c.in-Some.block.now c.requires.can c.in-Some.ensures.block _ _ _ _ c.requires.next.there c.requires.next.state
+pub count_block-requires-clause-can : goal.count_block-requires-clause-can
+count_block-requires-clause-can g c = record {
+  told = c.requires.can.told;
+  spread = c.requires.can.spread;
+  long = has_places _ _ _ c.in-Some.block.now c.requires.can c.in-Some.ensures.block _ _ _ _ c.requires.next.there c.requires.next.state;
+  room = can_count _ _ _ c.in-Some.block.now c.requires.can c.in-Some.ensures.block _ _ _ _ c.requires.next.there c.requires.next.state;
+  waits = have_members _ _ _ c.in-Some.block.now c.requires.can c.in-Some.ensures.block _ _ _ _ c.requires.next.there c.requires.next.state;
+}
 
 pub returns-clause-listed : goal.returns-clause-listed
 returns-clause-listed g c = λ stacks listed l there h.

@@ -1,5 +1,5 @@
 use Rattle.std.proofs.Common.{refl}
-use Rattle.km_why.proofs.Opened.{begun_alone, begun_with, can, may_wait, places_stay, stacks_fit}
+use Rattle.km_why.proofs.Opened.{begun_alone, begun_with, can, may_count, places_stay}
 use Rattle.km_why.proofs.Sought.{can_after}
 use Rattle.km_why.proofs.search.begin.Goals as goal
 
@@ -12,18 +12,9 @@ returns-then-not-stacks-clause-begun g c =
     (record { counted = c.clear-3.ensures.counted _; items = c.clear-2.ensures.items; len = c.clear-2.ensures.len; ordered = c.clear-2.ensures.heap_order; members = c.clear.ensures.items; long = c.clear.ensures.len })
     (places_stay _ c.args.search.now _ c.requires.places c.clear-3.ensures.long c.clear-2.ensures.capacity c.clear.ensures.capacity) c.args.stacks c.if-not-stacks.true
 
-pub count_stacks-requires-clause-spread : goal.count_stacks-requires-clause-spread
-count_stacks-requires-clause-spread g c = (can _ c.args.track.now _ c.requires.told c.requires.small c.requires.laid c.clear-3.ensures.rising c.clear-3.ensures.apart).spread
-
-pub count_stacks-requires-clause-room : goal.count_stacks-requires-clause-room
-count_stacks-requires-clause-room g c =
-    stacks_fit _ c.args.track.now _ c.requires.told c.requires.small c.requires.laid c.clear-3.ensures.rising c.clear-3.ensures.apart (record { counts = c.clear-3.new.counts; waiting = c.clear-2.new.self; members = c.clear.new.self })
-    (record { counted = c.clear-3.ensures.counted _; items = c.clear-2.ensures.items; len = c.clear-2.ensures.len; ordered = c.clear-2.ensures.heap_order; members = c.clear.ensures.items; long = c.clear.ensures.len })
-    (places_stay _ c.args.search.now _ c.requires.places c.clear-3.ensures.long c.clear-2.ensures.capacity c.clear.ensures.capacity)
-
-pub count_stacks-requires-clause-waits : goal.count_stacks-requires-clause-waits
-count_stacks-requires-clause-waits g c =
-    may_wait _ c.args.track.now _ c.requires.told c.requires.small c.requires.laid c.clear-3.ensures.rising c.clear-3.ensures.apart (record { counts = c.clear-3.new.counts; waiting = c.clear-2.new.self; members = c.clear.new.self })
+pub count_stacks-requires-clause-can : goal.count_stacks-requires-clause-can
+count_stacks-requires-clause-can g c =
+    may_count _ c.args.track.now _ c.requires.told c.requires.small c.requires.laid c.clear-3.ensures.rising c.clear-3.ensures.apart (record { counts = c.clear-3.new.counts; waiting = c.clear-2.new.self; members = c.clear.new.self })
     (record { counted = c.clear-3.ensures.counted _; items = c.clear-2.ensures.items; len = c.clear-2.ensures.len; ordered = c.clear-2.ensures.heap_order; members = c.clear.ensures.items; long = c.clear.ensures.len })
     (places_stay _ c.args.search.now _ c.requires.places c.clear-3.ensures.long c.clear-2.ensures.capacity c.clear.ensures.capacity)
 
