@@ -1,0 +1,5 @@
+pub mod Telling
+pub mod Judging
+pub mod Replays
+pub mod Journals
+pub mod Program
