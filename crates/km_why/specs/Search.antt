@@ -2,6 +2,7 @@
 use Rattle.std.specs.Prelude.{◌≡◌, ℕ, ◌≤◌, ◌==◌, Bool, true, false, List, [], ◌∷◌, ◌++◌, length, map, filter, find, Some, None, vec_len, vec_capacity}
 use Rattle.std.specs.List.{list_any}
 use Rattle.std.specs.BinaryHeap.{heap_capacity, heap_items, heap_len}
+use Rattle.km_base.specs.declared.sizes.TheConstants.{MOST_WORDS}
 use Rattle.km_certificates.specs.Certificates.{Counted, counted, is_held, is_member, list_of}
 use Rattle.km_model.specs.Blocks.{Block, needs, references_of}
 use Rattle.km_model.specs.Held.{Standing}
@@ -37,7 +38,7 @@ members_in t s bs = map (member_in t) (counted s bs)
 -- what is known of the words and of the live blocks while a search goes on
 pub record CanSearch (u : Told) (t : Tracker) : Type 0 where
   pub told : TellsAll u
-  pub small : u.size ≤ 4194304
+  pub small : u.size ≤ MOST_WORDS
   pub rising : AreRising 0 t.live t.registered
   pub spread : AreSpread u.size t
 

@@ -2,6 +2,7 @@
 
 ghost use Rattle.std.specs.Prelude.{◌≡◌, ◌+◌, ◌-◌, ◌<◌, ◌≤◌, ◌^◌, ◌&&◌, ◌==◌, not, [], true, length, nat_le, sum_by, Some};
 ghost use Rattle.std.specs.List.{list_any, All};
+ghost use Rattle.km_base.specs.declared.sizes.TheConstants.{MOST_WORDS};
 ghost use Rattle.km_certificates.specs.Certificates.{first_unfit};
 ghost use Rattle.km_model.specs.Blocks.{Block};
 ghost use Rattle.km_model.specs.Members.{In};
@@ -188,7 +189,7 @@ pub fn check<M: ObjectMap, W: Words>(
     requires live { (id : RecordId) → In id list.now → is_live id track.now ≡ true }
     requires few { length list.now < 2 ^ 32 - 1 }
     requires told { TellsAll (W.told words.old) }
-    requires small { (W.told words.old).size ≤ 4194304 }
+    requires small { (W.told words.old).size ≤ MOST_WORDS }
     requires laid { AreLaidOut (W.told words.old).size (blocks_of track.now) tasks.now.tasks }
     ensures answer { result ≡ first_unfit (standing_of track.now tasks.now.tasks stacks (memory_of (W.told words.old))) 1 [] (blocks_by track.now list.now) }
     ensures told { TellsSame (W.told words.old) (W.told words.new) }

@@ -1,6 +1,7 @@
 //! The references to each block that were found so far.
 
 ghost use Rattle.std.specs.Prelude.{IfOk, ◌≡◌, ℕ, ◌+◌, ◌*◌, ◌<◌, ◌≤◌, ◌^◌, false, true, List, [], ◌∷◌, ◌++◌, length, slice_set, flat_map, option_map, IfSome, IfNone};
+ghost use Rattle.km_base.specs.declared.sizes.TheConstants.{MOST_WORDS, PAGE, PAGE_WORDS};
 ghost use Rattle.km_model.specs.Memory.{base, in_memory as is_word, index_of, words_from};
 ghost use Rattle.km_base.specs.declared.spans.Span.{Span as Bytes};
 ghost use Rattle.km_model.specs.Blocks.{Block, block_at, is_within, scanned_words};
@@ -281,11 +282,11 @@ fn count_stack<M: ObjectMap, W: Words>(
     words: &mut W,
     stack: Addr,
 )
-    requires can { CanCount (W.told words.old) track.now counts.old.items (heap_items waiting.old) (heap_len waiting.old) (heap_capacity waiting.old) (words_from 512 stack.0) }
-    requires within { IsInMemory (W.told words.old).size stack.0 4096 }
-    requires aligned { IsOfWords stack.0 4096 }
-    requires small { (W.told words.old).size ≤ 4194304 }
-    ensures counted { (ws : List ℕ) → AreCounted (memory_of (W.told words.old)) (blocks_of track.now) ws counts.old.items → AreCounted (memory_of (W.told words.old)) (blocks_of track.now) (ws ++ words_from 512 stack.0) counts.new.items }
+    requires can { CanCount (W.told words.old) track.now counts.old.items (heap_items waiting.old) (heap_len waiting.old) (heap_capacity waiting.old) (words_from PAGE_WORDS stack.0) }
+    requires within { IsInMemory (W.told words.old).size stack.0 PAGE }
+    requires aligned { IsOfWords stack.0 PAGE }
+    requires small { (W.told words.old).size ≤ MOST_WORDS }
+    ensures counted { (ws : List ℕ) → AreCounted (memory_of (W.told words.old)) (blocks_of track.now) ws counts.old.items → AreCounted (memory_of (W.told words.old)) (blocks_of track.now) (ws ++ words_from PAGE_WORDS stack.0) counts.new.items }
     ensures long { length counts.new.items ≡ length counts.old.items }
     ensures waits { (members : List Block) → AreWaiting track.now.live counts.old.items members (heap_items waiting.old) (heap_len waiting.old) (heap_capacity waiting.old) → AreWaiting track.now.live counts.new.items members (heap_items waiting.new) (heap_len waiting.new) (heap_capacity waiting.new) }
     ensures capacity { heap_capacity waiting.old ≤ heap_capacity waiting.new }
@@ -305,8 +306,8 @@ pub fn count_stacks<M: ObjectMap, W: Words>(
     words: &mut W,
 )
     requires can { CanCount (W.told words.old) track.now counts.old.items (heap_items waiting.old) (heap_len waiting.old) (heap_capacity waiting.old) (flat_map stack_words tasks.now.tasks) }
-    requires within { Each (λ (t : Task). IsInMemory (W.told words.old).size t.stack 4096 × IsOfWords t.stack 4096) tasks.now.tasks }
-    requires small { (W.told words.old).size ≤ 4194304 }
+    requires within { Each (λ (t : Task). IsInMemory (W.told words.old).size t.stack PAGE × IsOfWords t.stack PAGE) tasks.now.tasks }
+    requires small { (W.told words.old).size ≤ MOST_WORDS }
     ensures counted { (ws : List ℕ) → AreCounted (memory_of (W.told words.old)) (blocks_of track.now) ws counts.old.items → AreCounted (memory_of (W.told words.old)) (blocks_of track.now) (ws ++ flat_map stack_words tasks.now.tasks) counts.new.items }
     ensures long { length counts.new.items ≡ length counts.old.items }
     ensures waits { (members : List Block) → AreWaiting track.now.live counts.old.items members (heap_items waiting.old) (heap_len waiting.old) (heap_capacity waiting.old) → AreWaiting track.now.live counts.new.items members (heap_items waiting.new) (heap_len waiting.new) (heap_capacity waiting.new) }

@@ -1,6 +1,7 @@
 //! Why a block is held: the list that ends with it.
 
 ghost use Rattle.std.specs.Prelude.{IfOk, ◌≡◌, ◌≤◌, []};
+ghost use Rattle.km_base.specs.declared.sizes.TheConstants.{MOST_WORDS};
 ghost use Rattle.km_certificates.specs.Certificates.{is_held, list_of};
 ghost use Rattle.km_why.specs.Search.{members_in};
 ghost use Rattle.km_why.specs.Told.{AreLaidOut, TellsAll, TellsSame, blocks_of, memory_of, standing_of};
@@ -66,7 +67,7 @@ impl Why {
         b: RecId,
     ) -> bool
         requires told { TellsAll (W.told words.old) }
-        requires small { (W.told words.old).size ≤ 4194304 }
+        requires small { (W.told words.old).size ≤ MOST_WORDS }
         requires laid { AreLaidOut (W.told words.old).size (blocks_of track.now) tasks.now.tasks }
         requires room { (W.told words.old).size ≤ self.old.capacity }
         ensures held { result ≡ is_held (standing_of track.now tasks.now.tasks stacks (memory_of (W.told words.old))) b.generation }

@@ -1,6 +1,7 @@
 //! How many references are lacking, of those that are wanted.
 
 ghost use Rattle.std.specs.Prelude.{◌≡◌, ◌+◌, ◌-◌, ◌<◌, ◌≤◌, ◌^◌, true, flat_map, if◌then◌else◌};
+ghost use Rattle.km_base.specs.declared.sizes.TheConstants.{MOST_WORDS, PAGE, PAGE_WORDS};
 ghost use Rattle.km_model.specs.Blocks.{Block, scanned_words};
 ghost use Rattle.km_model.specs.Members.{Each};
 ghost use Rattle.km_model.specs.Memory.{in_memory as is_word, word_at, words_from};
@@ -76,10 +77,10 @@ pub fn in_block<W: Words>(words: &mut W, block: &Record, aim: Aim, wanted: u64) 
 /// What is lacking after the words of a stack.
 fn in_stack<W: Words>(words: &mut W, stack: Addr, aim: Aim, wanted: u64) -> u64
     requires told { TellsAll (W.told words.old) }
-    requires within { IsInMemory (W.told words.old).size stack.0 4096 }
-    requires aligned { IsOfWords stack.0 4096 }
-    requires small { (W.told words.old).size ≤ 4194304 }
-    ensures lacking { result ≡ wanted - references (memory_of (W.told words.old)) aim.target aim.but (words_from 512 stack.0) }
+    requires within { IsInMemory (W.told words.old).size stack.0 PAGE }
+    requires aligned { IsOfWords stack.0 PAGE }
+    requires small { (W.told words.old).size ≤ MOST_WORDS }
+    ensures lacking { result ≡ wanted - references (memory_of (W.told words.old)) aim.target aim.but (words_from PAGE_WORDS stack.0) }
     ensures told { TellsSame (W.told words.old) (W.told words.new) }
 {
     let mut lacking = wanted;
@@ -92,8 +93,8 @@ fn in_stack<W: Words>(words: &mut W, stack: Addr, aim: Aim, wanted: u64) -> u64
 /// What is lacking after the stacks of the live tasks.
 pub fn in_stacks<W: Words>(words: &mut W, tasks: &Tasks, aim: Aim, wanted: u64) -> u64
     requires told { TellsAll (W.told words.old) }
-    requires within { Each (λ (t : Task). IsInMemory (W.told words.old).size t.stack 4096 × IsOfWords t.stack 4096) tasks.now.tasks }
-    requires small { (W.told words.old).size ≤ 4194304 }
+    requires within { Each (λ (t : Task). IsInMemory (W.told words.old).size t.stack PAGE × IsOfWords t.stack PAGE) tasks.now.tasks }
+    requires small { (W.told words.old).size ≤ MOST_WORDS }
     ensures lacking { result ≡ wanted - references (memory_of (W.told words.old)) aim.target aim.but (flat_map stack_words tasks.now.tasks) }
     ensures told { TellsSame (W.told words.old) (W.told words.new) }
 {
@@ -115,8 +116,8 @@ fn in_scanned_stacks<W: Words>(
     wanted: u64,
 ) -> u64
     requires told { TellsAll (W.told words.old) }
-    requires within { Each (λ (t : Task). IsInMemory (W.told words.old).size t.stack 4096 × IsOfWords t.stack 4096) tasks.now.tasks }
-    requires small { (W.told words.old).size ≤ 4194304 }
+    requires within { Each (λ (t : Task). IsInMemory (W.told words.old).size t.stack PAGE × IsOfWords t.stack PAGE) tasks.now.tasks }
+    requires small { (W.told words.old).size ≤ MOST_WORDS }
     ensures lacking { result ≡ wanted - references (memory_of (W.told words.old)) aim.target aim.but (flat_map stack_words (stacks_of stacks tasks.now.tasks)) }
     ensures told { TellsSame (W.told words.old) (W.told words.new) }
 {

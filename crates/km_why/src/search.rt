@@ -2,6 +2,7 @@
 
 ghost use Rattle.std.specs.Prelude.{◌≡◌, ℕ, ◌+◌, ◌<◌, ◌≤◌, ◌&&◌, ◌==◌, true, false, List, [], ◌∷◌, ◌++◌, length, filter, Some, vec_len, vec_capacity};
 ghost use Rattle.std.specs.BinaryHeap.{heap_capacity, heap_items, heap_len};
+ghost use Rattle.km_base.specs.declared.sizes.TheConstants.{MOST_WORDS};
 ghost use Rattle.km_model.specs.Blocks.{Block, needs, references_of};
 ghost use Rattle.km_model.specs.Memory.{base, index_of};
 ghost use Rattle.km_model.specs.Tasks.{Task};
@@ -82,7 +83,7 @@ pub fn begin<M: ObjectMap, W: Words>(
     words: &mut W,
 )
     requires told { TellsAll (W.told words.old) }
-    requires small { (W.told words.old).size ≤ 4194304 }
+    requires small { (W.told words.old).size ≤ MOST_WORDS }
     requires laid { AreLaidOut (W.told words.old).size (blocks_of track.now) tasks.now.tasks }
     requires places { HasPlaces (W.told words.old).size search.old }
     ensures can { CanSearch (W.told words.new) track.now }
