@@ -1,5 +1,5 @@
 -- A line that a machine runs, as the definitions have it.
-use Rattle.std.proofs.Common.{◌≡◌, [], is_none, Option, Some, None, Ok, Err, refl, ap, sym, subst, ◌∙◌}
+use Rattle.std.proofs.Common.{ℕ, Bool, List, ◌≡◌, [], is_none, Option, Some, None, Ok, Err, refl, ap, sym, subst, ◌∙◌}
 use Rattle.km_edge.specs.declared.errors.Failed.{Failed}
 use Rattle.km_edge.specs.Streams.{SinkState}
 use Rattle.km_edge.proofs.Writing.{wrote_none}
@@ -10,6 +10,7 @@ use Rattle.km_base.specs.declared.lines.Line.TheVariants as line
 use Rattle.km_base.specs.declared.status.Status.{Status}
 use Rattle.km_base.specs.declared.status.Status.TheVariants as status
 use Rattle.km_model.specs.Follows.{Run, first_run}
+use Rattle.km_model.specs.Grammar.{line_by, line_of}
 use Rattle.km_model.specs.Output.{Script, Fresh, Begun, LeadsLine, is_fresh, line_text}
 use Rattle.km_machine.specs.Machines.{For, Simulation}
 use Rattle.km_machine.specs.Machines.{RunsLine as MachineRuns}
@@ -70,3 +71,17 @@ stays_led s p status.WriteFault led = tt
 stays_led s p status.NoMemory led = tt
 stays_led s p (status.BadWords _) led = tt
 stays_led s p status.TooLong led = tt
+
+-- a line of no byte is blank
+empty_is_blank : (first : Bool) → line_of first [] ≡ Ok line.Blank
+unfolding line_by
+empty_is_blank first = refl
+
+-- it runs where nothing is done and nothing is written
+pub empty_runs : (machine : Option Simulation) (p : Place) (bytes : List ℕ) (k : SinkState) → HasLed machine p.script → bytes ≡ []
+    → (l : Line) × (line_of (is_fresh p.script) bytes ≡ Ok l) × RanOn machine p.script l k k
+empty_runs machine p bytes k led empty = (
+  line.Blank,
+  ap (line_of (is_fresh p.script)) empty ∙ empty_is_blank (is_fresh p.script),
+  record { next = p.script; text = []; leads = (refl, refl); led = led; wrote = wrote_none k },
+)

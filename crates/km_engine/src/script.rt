@@ -73,7 +73,32 @@ impl Script {
     }
 
     /// Reads and runs one line, without its line feed. An `Err` is how the script ends.
+    #[inline]
     pub fn line<K: Sink>(&mut self, alloc: Global, bytes: &[u8], sink: &mut K) -> Result<(), Status>
+        requires numbered { self.old.number < 2 ^ 64 - 1 }
+        requires room { HasRoomFor self.old.machine (length bytes.now) }
+        ensures runs { RunsLine self.old self.new bytes.now (K.state sink.old) (K.state sink.new) result }
+        ensures room { IfOk result (λ _. TakesRoom self.old self.new (length bytes.now + 1) 0) }
+        ensures number { IfOk result (λ _. self.new.number ≡ self.old.number + 1) }
+    {
+        match bytes {
+            // Such a line is common, and has no need of room for what lines say.
+            [] => {
+                self.number += 1;
+                Ok(())
+            }
+            _ => self.some_line(alloc, bytes, sink),
+        }
+    }
+
+    /// Reads and runs one line, whatever its bytes are.
+    #[inline(never)]
+    fn some_line<K: Sink>(
+        &mut self,
+        alloc: Global,
+        bytes: &[u8],
+        sink: &mut K,
+    ) -> Result<(), Status>
         requires numbered { self.old.number < 2 ^ 64 - 1 }
         requires room { HasRoomFor self.old.machine (length bytes.now) }
         ensures runs { RunsLine self.old self.new bytes.now (K.state sink.old) (K.state sink.new) result }
