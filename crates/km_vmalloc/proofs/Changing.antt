@@ -1,4 +1,4 @@
-use Rattle.std.proofs.Common.{◌≡◌, ◌≢◌, ℕ, ◌<◌, Bool, true, false, not, ◌||◌, ◌==◌, List, [], ◌∷◌, ◌++◌, length, get_or, slice_set, Option, Some, None, if◌then◌else◌, refl, sym, ap, ◌∙◌, subst, arith, ◌⊎◌, inl, inr}
+use Rattle.std.proofs.Common.{◌≡◌, ◌≢◌, ℕ, ◌+◌, ◌<◌, max, Bool, true, false, not, ◌||◌, ◌==◌, List, [], ◌∷◌, ◌++◌, length, get_or, slice_set, Option, Some, None, if◌then◌else◌, refl, sym, ap, ◌∙◌, subst, arith, ◌⊎◌, inl, inr}
 use Rattle.std.specs.List.{All, list_any}
 use Rattle.std.proofs.lemmas.Bool.{cases_eq, eq-eqb, eqb-true, false_from_ne_true, ne_eqb, not-true, not_from_false, or_left, or_right}
 use Rattle.std.proofs.lemmas.List.{get_or-set_same, get_or-set_other, length-set}
@@ -19,7 +19,7 @@ use Rattle.km_slab.proofs.Growing.{slab_run}
 use Rattle.km_slab.proofs.Places.{kind_found}
 use Rattle.km_slab.proofs.Slots.{page_of_slot}
 use Rattle.km_vmalloc.specs.declared.areas.VmArea.{VmArea}
-use Rattle.km_vmalloc.specs.Areas.{AreAreas, AreKept, Fits, IsPart, IsPlaced, IsRun, area_at, area_of, area_start, head_of, head_start, is_head, with_area, without_area}
+use Rattle.km_vmalloc.specs.Areas.{AreAreas, AreKept, AreSeen, Fits, IsPart, IsPlaced, IsRun, area_at, area_of, area_start, head_of, head_start, is_head, with_area, without_area}
 use Rattle.km_vmalloc.proofs.Live.{area_use, clash, head_use, one_area, same_addr}
 
 -- a slot is taken or given back
@@ -53,6 +53,16 @@ pub kept_added : (areas : List (Option VmArea)) (v : VmArea) → Added areas v �
 kept_added areas v added kept = record {
   count = length-set areas v.slot (Some v) ∙ kept.count;
   slots = λ s w h. elim (new_area areas v w s added h) [ inl new ↦ ap (λ (u : VmArea). u.slot) new.1 ∙ sym new.0 | inr old ↦ kept.slots s w old.1 ];
+}
+
+-- the first slot from which on none is live, where a slot is taken
+pub seen_added : (areas : List (Option VmArea)) (reach place hint : ℕ) (hints : List ℕ) (v : VmArea) → Added areas v → AreSeen areas reach hints
+    → AreSeen (slice_set areas v.slot (Some v)) (max reach (v.slot + 1)) (slice_set hints place hint)
+seen_added areas reach place hint hints v added seen = record {
+  kept = kept_added areas v added seen.kept;
+  within = let count = length-set areas v.slot (Some v) in let slot = added.within in let before = seen.within in omega (arith, count, slot, before);
+  above = λ s le. at_other areas v.slot s (Some v) (λ e. omega (arith, le, e)) ∙ seen.above s (omega (arith, le));
+  places = length-set hints place hint ∙ seen.places;
 }
 
 any_more : (test : Allocation → Bool) (used : List Allocation) (v : VmArea) → list_any test used ≡ true → list_any test (with_area used v) ≡ true
@@ -177,6 +187,17 @@ pub kept_gone : (areas : List (Option VmArea)) (slot : ℕ) → slot < length ar
 kept_gone areas slot within kept = record {
   count = length-set areas slot None ∙ kept.count;
   slots = λ s w h. kept.slots s w (gone_area areas slot s w within h).1;
+}
+
+pub seen_gone : (areas : List (Option VmArea)) (reach slot : ℕ) (hints : List ℕ) → slot < length areas → AreSeen areas reach hints → AreSeen (slice_set areas slot None) reach hints
+seen_gone areas reach slot hints within seen = record {
+  kept = kept_gone areas slot within seen.kept;
+  within = let count = length-set areas slot None in let before = seen.within in omega (arith, count, before);
+  above = λ s le. elim (cases_eq s slot) [
+    | inl same ↦ subst (λ t. area_at (slice_set areas slot None) t ≡ None) (sym same) (at_same areas slot None within)
+    | inr ne ↦ at_other areas slot s None ne ∙ seen.above s le
+  ];
+  places = seen.places;
 }
 
 pub fits_gone : (areas : List (Option VmArea)) (slab less : Sheets) (pages new : List (Option Run)) (v : VmArea) → v.slot < length areas → area_at areas v.slot ≡ Some v → Loses slab less v.head.start.0

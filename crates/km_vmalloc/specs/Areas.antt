@@ -12,6 +12,7 @@ use Rattle.km_pages.specs.declared.runs.Use.TheVariants.{Vmalloc}
 use Rattle.km_pages.specs.Runs.{run_at, run_from}
 use Rattle.km_pages.specs.Laid.{AreLaid}
 use Rattle.km_slab.specs.Blocks.{Sheets, AreBlocks, Gains, IsSlot}
+use Rattle.km_vmalloc.specs.declared.vmalloc.TheConstants.{PAGES}
 use Rattle.km_vmalloc.specs.declared.errors.VmFault.{VmFault}
 use Rattle.km_vmalloc.specs.declared.errors.VmFault.TheVariants as fault
 use Rattle.km_vmalloc.specs.declared.areas.VmArea.{VmArea}
@@ -20,10 +21,21 @@ use Rattle.km_vmalloc.specs.declared.areas.VmArea.{VmArea}
 abbrev pub area_at : List (Option VmArea) → ℕ → Option VmArea
 area_at areas s = slice_index_or areas s None
 
+-- no area is live from a slot on
+abbrev pub IsFreeFrom : List (Option VmArea) → ℕ → Type 0
+IsFreeFrom areas reach = (s : ℕ) → reach ≤ s → area_at areas s ≡ None
+
 -- there are 512 slots, and each live area has its own
 pub record AreKept (areas : List (Option VmArea)) : Type 0 where
   pub count : length areas ≡ VMAP_SLOTS
   pub slots : (s : ℕ) (v : VmArea) → area_at areas s ≡ Some v → v.slot ≡ s
+
+-- how the areas are kept: none is live from a slot on, and each page of a memory has a place for a hint
+pub record AreSeen (areas : List (Option VmArea)) (reach : ℕ) (hints : List ℕ) : Type 0 where
+  pub kept : AreKept areas
+  pub within : reach ≤ length areas
+  pub above : IsFreeFrom areas reach
+  pub places : length hints ≡ PAGES
 
 -- a head and an area as allocations
 abbrev pub head_of : VmArea → Allocation

@@ -2,7 +2,7 @@
 
 ghost use Rattle.std.specs.Prelude.{◌≡◌, ◌+◌, ◌*◌, ◌<◌, ◌↔◌, ℕ, List, ◌∷◌, [], ◌++◌, length, slice_set, Option, Some, None, true, false, is_ok, is_some, option_map, IfOk, IfSome, OnErr};
 ghost use Rattle.std.specs.List.{All, list_any};
-ghost use Rattle.km_base.specs.declared.sizes.TheConstants.{PAGE, PAGE_WORDS};
+ghost use Rattle.km_base.specs.declared.sizes.TheConstants.{PAGE, PAGE_WORDS, VMAP_SLOTS};
 ghost use Rattle.km_model.specs.Placement.{Allocation, head_with, lowest_slab, lowest_slot, pages_for, slot_of_area};
 ghost use Rattle.km_pages.specs.declared.runs.Run.{Run};
 ghost use Rattle.km_pages.specs.declared.runs.Use as kinds;
@@ -12,12 +12,13 @@ ghost use Rattle.km_pages.specs.Runs.{run_from};
 ghost use Rattle.km_pages.specs.Laid.{AreLaid};
 ghost use Rattle.km_slab.specs.Blocks.{AreBlocks, Fits as SlabFits, IsSlot, Loses, Sheets};
 ghost use Rattle.km_vmalloc.specs.declared.areas.VmArea.{VmArea};
+ghost use Rattle.km_vmalloc.specs.declared.vmalloc.TheConstants.{PAGES};
 ghost use Rattle.km_vmalloc.specs.Areas.{AreAreas, Fits, IsApart, answer_of, area_at, head_of, is_head_at, is_part, vmalloc_answer, with_area, without_area};
 
 use crate::areas::{VmArea, area_beginning, free_slot, has_head};
 use crate::errors::VmFault;
 use crate::parts::{give_parts, take_parts};
-use km_base::sizes::VMAP_SLOTS;
+use km_base::sizes::{PAGE, VMAP_SLOTS};
 use km_base::{Addr, NoMemory};
 use km_pages::{NotAllocated, Pages};
 use km_slab::Slab;
@@ -27,22 +28,47 @@ use std::marker::Model;
 /// The most bytes that can be asked for.
 const MOST: u64 = 1_048_576;
 
+/// The most pages that a memory can have.
+const PAGES: usize = 8192;
+
 /// The live areas, by their vmap slots.
 #[derive(Drop)]
 pub struct Vmalloc {
     areas: Vec<Option<VmArea>>,
+    // No area is live from this slot on.
+    reach: usize,
+    // By the page where an area begins, the slot of the last that began there: where to look first.
+    hints: Vec<u32>,
 }
 
 impl Model for Vmalloc {
     ghost use Rattle.std.specs.Prelude.{List, Option};
     ghost use Rattle.km_vmalloc.specs.declared.areas.VmArea.{VmArea};
-    ghost use Rattle.km_vmalloc.specs.Areas.{AreKept};
+    ghost use Rattle.km_vmalloc.specs.Areas.{AreSeen};
 
     ghost Value = { List (Option VmArea) };
 
     ghost view = { λ s. s.areas.items };
 
-    ghost invariant = { λ s. AreKept s.areas.items };
+    ghost invariant = { λ s. AreSeen s.areas.items s.reach s.hints.items };
+}
+
+/// The place of an area's hint.
+fn place(start: Addr) -> usize
+    ensures { result < PAGES }
+{
+    (start.0 / PAGE) as usize % PAGES
+}
+
+/// All slots, with no live area.
+fn no_areas(alloc: Global) -> Result<Vec<Option<VmArea>>, NoMemory>
+    ensures count { IfOk result (λ v. length v.items ≡ VMAP_SLOTS) }
+    ensures none { IfOk result (λ v. (s : ℕ) → area_at v.items s ≡ None) }
+{
+    match vec![in alloc; None; VMAP_SLOTS] {
+        Ok(areas) => Ok(areas),
+        Err(_) => Err(NoMemory),
+    }
 }
 
 impl Vmalloc {
@@ -52,8 +78,13 @@ impl Vmalloc {
         ensures fits { IfOk result (λ m. (slab : Sheets) (pages : List (Option Run)) → ((p : ℕ) → run_from pages vmalloc_use p ≡ None) → Fits m slab pages) }
         ensures areas { IfOk result (λ m. (used : List Allocation) → All (λ (x : Allocation). is_part x ≡ false) used → AreAreas m used) }
     {
-        match vec![in alloc; None; VMAP_SLOTS] {
-            Ok(areas) => Ok(Vmalloc { areas }),
+        let areas = no_areas(alloc)?;
+        match vec![in alloc; 0; PAGES] {
+            Ok(hints) => Ok(Vmalloc {
+                areas,
+                reach: 0,
+                hints,
+            }),
             Err(_) => Err(NoMemory),
         }
     }
@@ -89,7 +120,7 @@ impl Vmalloc {
         if size == 0 || size > MOST {
             return Err(VmFault::BadSize);
         }
-        let Some(slot) = free_slot(&self.areas) else {
+        let Some(slot) = free_slot(&self.areas, self.reach) else {
             return Err(VmFault::NoSlot);
         };
         let Ok((head, area)) = take_parts(pages, slab, size) else {
@@ -101,6 +132,8 @@ impl Vmalloc {
             slot: slot as u32,
         };
         self.areas[slot] = Some(taken);
+        self.reach = self.reach.max(slot + 1);
+        self.hints[place(area.start)] = slot as u32;
         Ok(taken)
     }
 
@@ -111,7 +144,8 @@ impl Vmalloc {
         ensures none { result ≡ None → (s : ℕ) (v : VmArea) → area_at self.now s ≡ Some v → v.area.start ≡ start → ⊥ }
         ensures among { (slab : Sheets) (pages : List (Option Run)) (used : List Allocation) → Fits self.now slab pages → AreAreas self.now used → slot_of_area used start.0 ≡ option_map (λ v. v.slot) result }
     {
-        area_beginning(&self.areas, start)
+        let slot = self.hints[place(start)] as usize;
+        area_beginning(&self.areas, self.reach, slot, start)
     }
 
     /// Gives an area's pages back, and then its head.
@@ -155,6 +189,6 @@ impl Vmalloc {
         ensures none { result ≡ false → (s : ℕ) (v : VmArea) → area_at self.now s ≡ Some v → v.head.start ≡ start → ⊥ }
         ensures among { (used : List Allocation) → AreAreas self.now used → result ≡ list_any (is_head_at start.0) used }
     {
-        has_head(&self.areas, start)
+        has_head(&self.areas, self.reach, start)
     }
 }

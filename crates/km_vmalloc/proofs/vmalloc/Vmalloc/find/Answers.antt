@@ -8,7 +8,7 @@ pub returns-clause-among : goal.returns-clause-among
 returns-clause-among c = λ slab pages used fits a.
     let now = c.deref.ensures.value ∙ c.self.view_is in
     found_among c.args.self.now slab pages used c.args.start c.area_beginning.result
-    (with_slot c.args.self.now c.area_beginning.result (subst (λ (m : List (Option VmArea)). (s : ℕ) (v : VmArea) → area_at m s ≡ Some v → v.slot ≡ s) c.self.view_is c.self.invariant.slots)
+    (with_slot c.args.self.now c.area_beginning.result (subst (λ (m : List (Option VmArea)). (s : ℕ) (v : VmArea) → area_at m s ≡ Some v → v.slot ≡ s) c.self.view_is c.self.invariant.kept.slots)
     (subst (λ (m : List (Option VmArea)). IfSome c.area_beginning.result (λ (v : VmArea). (s : ℕ) × (area_at m s ≡ Some v))) now c.area_beginning.ensures.live))
     c.area_beginning.ensures.start
     (subst (λ (m : List (Option VmArea)). c.area_beginning.result ≡ None → (s : ℕ) (v : VmArea) → area_at m s ≡ Some v → v.area.start ≡ c.args.start → ⊥) now c.area_beginning.ensures.none)

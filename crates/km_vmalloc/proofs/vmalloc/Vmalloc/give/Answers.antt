@@ -8,7 +8,7 @@ use Rattle.km_slab.specs.Blocks.{AreBlocks}
 use Rattle.km_vmalloc.specs.declared.areas.VmArea.{VmArea}
 use Rattle.km_vmalloc.specs.Areas.{AreAreas, Fits, area_at}
 use Rattle.km_vmalloc.proofs.Live.{head_found, live_within}
-use Rattle.km_vmalloc.proofs.Changing.{kept_gone, fits_gone, areas_gone}
+use Rattle.km_vmalloc.proofs.Changing.{seen_gone, fits_gone, areas_gone}
 use Rattle.km_vmalloc.proofs.vmalloc.Vmalloc.give.Goals as goal
 
 pub give_parts-requires-clause-run : goal.give_parts-requires-clause-run
@@ -21,7 +21,7 @@ pub invariant_of-self : goal.invariant_of-self
 invariant_of-self c =
     let v = c.in-Some.area in
     let live = subst (λ (m : List (Option VmArea)). area_at m v.slot ≡ Some v) (sym c.self.view_is) c.in-Some.ensures.live in
-    kept_gone c.self.inside.areas.items v.slot (live_within c.self.inside.areas.items v.slot v live) c.self.invariant
+    seen_gone c.self.inside.areas.items c.self.inside.reach v.slot c.self.inside.hints.items (live_within c.self.inside.areas.items v.slot v live) c.self.invariant
 
 pub returns-clause-head : goal.returns-clause-head
 returns-clause-head c = λ used a. let v = c.in-Some.area in head_found c.args.self.now used v.slot v a c.in-Some.ensures.live

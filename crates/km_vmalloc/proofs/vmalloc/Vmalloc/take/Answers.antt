@@ -1,8 +1,8 @@
-use Rattle.std.proofs.Common.{◌≡◌, ℕ, ◌*◌, ◌<◌, List, Option, Some, None, length, refl, sym, subst, arith}
+use Rattle.std.proofs.Common.{◌≡◌, ℕ, ◌*◌, ◌<◌, List, Option, Some, None, length, slice_set, refl, sym, subst, arith}
 use Rattle.km_vmalloc.specs.declared.areas.VmArea.{VmArea}
-use Rattle.km_vmalloc.specs.Areas.{AreAreas, Fits, area_at}
+use Rattle.km_vmalloc.specs.Areas.{AreAreas, AreSeen, Fits, area_at}
 use Rattle.km_vmalloc.proofs.Live.{lowest_free, all_taken, good_size, no_slot_answer, placed_answer}
-use Rattle.km_vmalloc.proofs.Changing.{kept_added, fits_added, areas_added}
+use Rattle.km_vmalloc.proofs.Changing.{seen_added, fits_added, areas_added}
 use Rattle.km_vmalloc.proofs.vmalloc.Vmalloc.take.Goals as goal
 
 pub returns-in_default-clause-answer : goal.returns-in_default-clause-answer
@@ -10,13 +10,13 @@ returns-in_default-clause-answer c = λ used laid blocks a.
     let items = c.self.inside.areas.items in
     let full = subst (λ (m : List (Option VmArea)). (t : ℕ) → t < length m → area_at m t ≡ None → ⊥) c.deref.ensures.value (c.in_default.ensures.none refl) in
     no_slot_answer (512 * length c.args.pages.now) used c.args.size (good_size c.args.size (omega arith) (omega arith))
-    (all_taken items used (subst (λ (m : List (Option VmArea)). AreAreas m used) (sym c.self.view_is) a) c.self.invariant.count full)
+    (all_taken items used (subst (λ (m : List (Option VmArea)). AreAreas m used) (sym c.self.view_is) a) c.self.invariant.kept.count full)
 
 pub returns-in_default-take_parts-clause-answer : goal.returns-in_default-take_parts-clause-answer
 returns-in_default-take_parts-clause-answer c = λ used laid blocks a.
     let items = c.self.inside.areas.items in let slot = c.in-Some.slot in
     let within = subst (λ (m : List (Option VmArea)). slot < length m) c.deref.ensures.value c.in-Some.ensures.within in
-    let count = c.self.invariant.count in
+    let count = c.self.invariant.kept.count in
     let low = lowest_free items used slot (subst (λ (m : List (Option VmArea)). AreAreas m used) (sym c.self.view_is) a) (omega (arith, within, count))
     (subst (λ (m : List (Option VmArea)). area_at m slot ≡ None) c.deref.ensures.value c.in-Some.ensures.free)
     (subst (λ (m : List (Option VmArea)). (t : ℕ) → t < slot → area_at m t ≡ None → ⊥) c.deref.ensures.value c.in-Some.ensures.lowest) in
@@ -31,17 +31,19 @@ pub invariant_of-self : goal.invariant_of-self
 invariant_of-self c =
     let slot = c.in-Some.slot in
     let v : VmArea = record { head = c.in-Ok.head; area = c.in-Ok.area; slot = c.in-Some.slot } in
-    kept_added c.self.inside.areas.items v
+    let items = c.self.inside.areas.items in let hints = c.self.inside.hints.items in
+    subst (λ n. AreSeen (slice_set items slot (Some v)) n (slice_set hints c.place.result slot)) (sym c.max-self-inside.ensures)
+    (seen_added items c.self.inside.reach c.place.result slot hints v
     (record {
       within = subst (λ (m : List (Option VmArea)). slot < length m) c.deref.ensures.value c.in-Some.ensures.within;
       free = subst (λ (m : List (Option VmArea)). area_at m slot ≡ None) c.deref.ensures.value c.in-Some.ensures.free;
-    }) c.self.invariant
+    }) c.self.invariant)
 
 pub returns-clause-answer : goal.returns-clause-answer
 returns-clause-answer c = λ used laid blocks a.
     let items = c.self.inside.areas.items in let slot = c.in-Some.slot in
     let within = subst (λ (m : List (Option VmArea)). slot < length m) c.deref.ensures.value c.in-Some.ensures.within in
-    let count = c.self.invariant.count in
+    let count = c.self.invariant.kept.count in
     let low = lowest_free items used slot (subst (λ (m : List (Option VmArea)). AreAreas m used) (sym c.self.view_is) a) (omega (arith, within, count))
     (subst (λ (m : List (Option VmArea)). area_at m slot ≡ None) c.deref.ensures.value c.in-Some.ensures.free)
     (subst (λ (m : List (Option VmArea)). (t : ℕ) → t < slot → area_at m t ≡ None → ⊥) c.deref.ensures.value c.in-Some.ensures.lowest) in
@@ -51,7 +53,7 @@ pub returns-clause-slot : goal.returns-clause-slot
 returns-clause-slot c = λ used a.
     let items = c.self.inside.areas.items in let slot = c.in-Some.slot in
     let within = subst (λ (m : List (Option VmArea)). slot < length m) c.deref.ensures.value c.in-Some.ensures.within in
-    let count = c.self.invariant.count in
+    let count = c.self.invariant.kept.count in
     sym (lowest_free items used slot (subst (λ (m : List (Option VmArea)). AreAreas m used) (sym c.self.view_is) a) (omega (arith, within, count))
     (subst (λ (m : List (Option VmArea)). area_at m slot ≡ None) c.deref.ensures.value c.in-Some.ensures.free)
     (subst (λ (m : List (Option VmArea)). (t : ℕ) → t < slot → area_at m t ≡ None → ⊥) c.deref.ensures.value c.in-Some.ensures.lowest))
