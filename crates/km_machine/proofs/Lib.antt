@@ -3,7 +3,7 @@ mod Listings
 pub mod Pieces
 pub mod Told
 pub mod Rooms
-pub mod Going
+pub mod Sayings
 pub mod Stepping
 pub mod Scanning
 pub mod Timely

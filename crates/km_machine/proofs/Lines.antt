@@ -1,5 +1,5 @@
 -- What the events of a line print, one after the other.
-use Rattle.std.proofs.Common.{◌≡◌, ℕ, suc, ◌+◌, ◌-◌, ◌≤◌, Bool, true, false, ◌||◌, not, nat_lt, List, [], ◌∷◌, ◌++◌, length, Option, Some, None, Result, Ok, Err, refl, ap, sym, subst, ◌∙◌, arith}
+use Rattle.std.proofs.Common.{◌≡◌, ℕ, ◌+◌, ◌-◌, ◌≤◌, Bool, true, false, ◌||◌, not, nat_lt, List, [], ◌∷◌, ◌++◌, length, Option, Some, None, Result, Ok, Err, refl, ap, sym, subst, ◌∙◌, arith}
 use Rattle.std.proofs.lemmas.List.{append-nil}
 use Rattle.km_base.specs.declared.acts.Act.{Act}
 use Rattle.km_base.specs.declared.acts.Act.TheVariants as act
@@ -11,7 +11,6 @@ use Rattle.km_base.specs.declared.acts.Refusal.{Refusal}
 use Rattle.km_base.specs.declared.acts.Refusal.TheVariants.{NoObject, NotInside, NoScanRunning, Disabled}
 use Rattle.km_edge.specs.declared.errors.Failed.{Failed}
 use Rattle.km_edge.specs.Streams.{SinkState, WritesAll}
-use Rattle.km_edge.proofs.Writing.{wrote_none}
 use Rattle.km_base.specs.declared.lines.Command.{Command}
 use Rattle.km_base.specs.declared.lines.Command.TheVariants as command
 use Rattle.km_base.specs.declared.lines.Operand.{Operand}
@@ -33,7 +32,9 @@ use Rattle.km_model.specs.Output.{answer_text, events_text, keyword, line_text, 
 use Rattle.km_model.specs.Text.{at_text, refusal_text, value_text}
 use Rattle.km_machine.specs.Machines.{Simulation, For, RunsLine, Spent}
 use Rattle.km_machine.specs.Scans.{shown}
-use Rattle.km_machine.specs.Lines.{Gave, IsGiven, SoFar, is_alone, is_allocation, is_request, is_simple}
+use Rattle.km_machine.specs.Lines.{Gave, IsGiven, SaysLine, SoFar, is_alone, is_allocation, is_print, is_request, is_simple}
+use Rattle.km_machine.specs.Sayings.{Saying}
+use Rattle.km_machine.proofs.Sayings.{said_texts}
 
 -- whether an answer is an address
 abbrev pub is_place : Answer → Bool
@@ -135,7 +136,14 @@ not_place words past (act.BootMem size) value s = absurd (cc)
 no_request : (run : Run) (a : Act) → is_request a ≡ false → is_place (told_answer run a) ≡ false
 no_request run a s = (not_place run.words (past_of run.history) a (told_value run a) s).no
 
-simple_request : (a : Act) → is_simple a ≡ true → is_request a ≡ false
+-- so an address is given to a request
+pub given_asks : (run : Run) (a : Act) (start : ℕ) → At start ≡ told_answer run a → is_request a ≡ true
+given_asks run a start e = by_request (is_request a) refl where
+  by_request : (q : Bool) → is_request a ≡ q → is_request a ≡ true
+  by_request true r = r
+  by_request false r = absurd (let bad : true ≡ false = ap is_place e ∙ no_request run a r in cc)
+
+pub simple_request : (a : Act) → is_simple a ≡ true → is_request a ≡ false
 simple_request (act.Kmalloc _) s = absurd (cc)
 simple_request (act.Pages _) s = absurd (cc)
 simple_request (act.VmTake _) s = absurd (cc)
@@ -151,9 +159,10 @@ at_is memory word h act.Read start = refl
 at_is memory word h a start = refl
 
 -- and what isn't an address is shown alike, but for a listing
-pub shown_is : (memory word : List ℕ) (h : History) (a : Act) (given : Answer) → (a ≡ act.Read → ⊥) → is_place given ≡ false → shown given ≡ answer_text memory word h a given
+pub shown_is : (memory word : List ℕ) (h : History) (a : Act) (given : Answer) → (a ≡ act.Read → given ≡ Done → ⊥) → is_place given ≡ false → shown given ≡ answer_text memory word h a given
 shown_is memory word h a (At x) unread e = absurd (cc)
-shown_is memory word h act.Read Done unread e = absurd (unread refl)
+shown_is memory word h act.Read Done unread e = absurd (unread refl refl)
+shown_is memory word h act.Read given unread e = refl
 shown_is memory word h a given unread e = refl
 
 -- neither kind of act reads the file
@@ -166,21 +175,6 @@ request_unread a s e = let bad : false ≡ true = subst (λ x. is_request x ≡ 
 pub request_ticks : (a : Act) → is_request a ≡ true → ticks_of a ≡ 0
 request_ticks (act.Tick n) e = absurd (cc)
 request_ticks a e = refl
-
--- a line begins
-abbrev pub begun : (word : List ℕ) (machine : Simulation) (run : Run) (k : SinkState) → For machine run → SoFar word run run machine k k (Ok tt)
-begun word machine run k f = record { stands = f; count = 0; grown = (omega arith); wrote = wrote_none k }
-
--- one event more
-pub one_more : (word : List ℕ) (first run : Run) (machine next : Simulation) (k k' k'' : SinkState) (written result : Result (Unit {0}) Failed) (a : Act) (given : Answer)
-    → (s : SoFar word first run machine k k' written) → For next (happens run a) → given ≡ told_answer run a
-    → WritesAll k k'' (events_text first.memory word s.count run.history ++ answer_text first.memory word run.history a given) result → SoFar word first (happens run a) next k k'' result
-one_more word first run machine next k k' k'' written result a given s f answered wrote = record {
-  stands = f;
-  count = suc s.count;
-  grown = (let e = s.grown in omega (arith, e));
-  wrote = subst (λ x. WritesAll k k'' (events_text first.memory word s.count run.history ++ answer_text first.memory word run.history a x) result) answered wrote;
-}
 
 -- a line that makes its acts and then those behind an address
 abbrev is_plain : Command → Bool
@@ -202,9 +196,9 @@ plain_makes run x command.Finish p e = absurd (cc)
 plain_makes run x (command.Tick n) p e = absurd (cc)
 plain_makes run x c p e = e
 
-plain_prints : (h : History) (c : Command) → is_plain c ≡ true → print_text h c ≡ []
-plain_prints h (command.Print o) p = absurd (cc)
-plain_prints h c p = refl
+unprinted : (h : History) (c : Command) → is_print c ≡ false → print_text h c ≡ []
+unprinted h (command.Print o) e = absurd (cc)
+unprinted h c e = refl
 
 -- the text of a line is that of its events
 line_is : (count : ℕ) (run x : Run) (c : Command) (acts : List Act) → first_acts (world_after run.history) c ≡ Ok acts → print_text run.history c ≡ [] → length x.history ≡ count + length run.history
@@ -214,23 +208,17 @@ line_is count run x c acts first prints grown =
     ∙ ap (λ t. t ++ events_text run.memory (keyword c) (length x.history - length run.history) x.history) prints
     ∙ (let n : length x.history - length run.history ≡ count = omega (arith, grown) in ap (λ n. events_text run.memory (keyword c) n x.history) n)
 
-ran : (next : Simulation) (run x : Run) (c : Command) (k k' : SinkState) (result : Result (Unit {0}) Failed) (acts : List Act)
-    → SoFar (keyword c) run x next k k' result → first_acts (world_after run.history) c ≡ Ok acts → print_text run.history c ≡ [] → Makes run c x
-    → RunsLine next run c k k' result
-ran next run x c k k' result acts s first prints makes = record {
-  behind = x;
-  makes = makes;
-  stands = s.stands;
-  wrote = subst (λ t. WritesAll k k' t result) (sym (line_is s.count run x c acts first prints s.grown)) s.wrote;
-}
+-- a line of these acts
+pub says_line : (says : Saying) (next : Simulation) (run x : Run) (c : Command) (k k' : SinkState) (written : Result (Unit {0}) Failed) (acts : List Act)
+    → first_acts (world_after run.history) c ≡ Ok acts → Makes run c x → SoFar says run x next k k' written → SaysLine says next run c k k' (Ok written)
+says_line says next run x c k k' written acts first makes s = record { behind = x; makes = makes; stands = s.stands; said = (acts, first, s.said) }
 
--- a plain line of these acts
-pub plain_ran : (next : Simulation) (run : Run) (c : Command) (k k' : SinkState) (result : Result (Unit {0}) Failed) (a : Act) → is_plain c ≡ true → Ok (a ∷ []) ≡ first_acts (world_after run.history) c
-    → SoFar (keyword c) run (all_happen (happens run a) (further_acts (happens run a).history c)) next k k' result
-    → RunsLine next run c k k' result
-plain_ran next run c k k' result a plain first s =
-    ran next run _ c k k' result (a ∷ []) s (sym first) (plain_prints run.history c plain)
-    (plain_makes run _ c plain (ap (behind_acts run c) (sym first)))
+-- a plain line of one act and those behind it
+pub plain_says : (says : Saying) (next : Simulation) (run : Run) (c : Command) (k k' : SinkState) (written : Result (Unit {0}) Failed) (a : Act) → is_plain c ≡ true → Ok (a ∷ []) ≡ first_acts (world_after run.history) c
+    → SoFar says run (all_happen (happens run a) (further_acts (happens run a).history c)) next k k' written
+    → SaysLine says next run c k k' (Ok written)
+plain_says says next run c k k' written a plain first s =
+    says_line says next run _ c k k' written (a ∷ []) (sym first) (plain_makes run _ c plain (ap (behind_acts run c) (sym first))) s
 
 -- nothing is behind what isn't an address
 pub none_further : (h : History) (a : Act) (given : Answer) (c : Command) → is_place given ≡ false → further_acts (record { act = a; answer = given } ∷ h) c ≡ []
@@ -238,13 +226,13 @@ none_further h a (At x) c e = absurd (cc)
 none_further h a given c e = refl
 
 -- a line that is refused
-pub refused_line : (machine : Simulation) (run : Run) (c : Command) (k k' : SinkState) (result : Result (Unit {0}) Failed) (r : Refusal) → is_plain c ≡ true → For machine run
-    → Err r ≡ first_acts (world_after run.history) c → WritesAll k k' (refusal_text r) result → RunsLine machine run c k k' result
-refused_line machine run c k k' result r plain f first wrote = record {
+pub refused_line : (says : Saying) (machine : Simulation) (run : Run) (c : Command) (k : SinkState) (r : Refusal) → is_plain c ≡ true → For machine run
+    → Err r ≡ first_acts (world_after run.history) c → SaysLine says machine run c k k (Err r)
+refused_line says machine run c k r plain f first = record {
   behind = run;
   makes = plain_makes run run c plain (ap (behind_acts run c) (sym first));
   stands = f;
-  wrote = subst (λ t. WritesAll k k' t result) (ap (λ (x : Acts). elim x as (λ _. List ℕ) [ Err r ↦ refusal_text r | Ok _ ↦ print_text run.history c ++ events_text run.memory (keyword c) (length run.history - length run.history) run.history ]) first) wrote;
+  said = (sym first, refl);
 }
 
 pub not_at : (x : Answer) → ((a : ℕ) → x ≡ At a → ⊥) → is_place x ≡ false
@@ -279,28 +267,19 @@ listed_same : (memory : List ℕ) (h : History) → listing_text memory (record 
 unfolding world_after_act
 listed_same memory h = refl
 
-pub read_text : (memory : List ℕ) (run : Run) (given : Answer) → (given ≡ Done → ⊥) → given ≡ told_answer run act.Read
-    → shown given ≡ answer_text memory [] run.history act.Read given
-unfolding answer
-read_text memory run given never e = by_scan (running_scan (past_of run.history)) e where
-  by_scan : (o : Option ℕ) → given ≡ unless_busy o Done → shown given ≡ answer_text memory [] run.history act.Read given
-  by_scan None e = absurd (never e)
-  by_scan (Some k) e = ap shown e ∙ ap (answer_text memory [] run.history act.Read) (sym e)
+pub reads : (says : Saying) (next : Simulation) (run : Run) (k k' : SinkState) (written : Result (Unit {0}) Failed)
+    → SoFar says run (happens run act.Read) next k k' written → SaysLine says next run command.Read k k' (Ok written)
+reads says next run k k' written s =
+    says_line says next run (happens run act.Read) command.Read k k' written (act.Read ∷ []) refl
+    (ap (all_happen (happens run act.Read)) (none_further run.history act.Read (told_answer run act.Read) command.Read (no_request run act.Read refl))) s
 
-pub reads : (machine next : Simulation) (run : Run) (k k' : SinkState) (result : Result (Unit {0}) Failed) (given : Answer) → For machine run
-    → For next (happens run act.Read) → given ≡ told_answer run act.Read
-    → WritesAll k k' (answer_text run.memory [] run.history act.Read given) result → RunsLine next run command.Read k k' result
-reads machine next run k k' result given f stands answered wrote =
-    ran next run (happens run act.Read) command.Read k k' result (act.Read ∷ [])
-    (one_more [] run run machine next k k k' (Ok tt) result act.Read given (begun [] machine run k f) stands answered wrote) refl refl
-    (ap (all_happen (happens run act.Read)) (none_further run.history act.Read (told_answer run act.Read) command.Read (no_request run act.Read refl)))
-
-pub lists : (machine next : Simulation) (run : Run) (k k' : SinkState) (result : Result (Unit {0}) Failed) → For machine run
-    → For next (happens run act.Read) → Done ≡ told_answer run act.Read
-    → WritesAll k k' (listing_text (happens run act.Read).memory (happens run act.Read).history) result → RunsLine next run command.Read k k' result
-lists machine next run k k' result f stands answered wrote =
-    reads machine next run k k' result Done f stands answered (subst (λ t. WritesAll k k' t result)
-    (ap (λ x. listing_text run.memory (record { act = act.Read; answer = x } ∷ run.history)) (sym answered) ∙ listed_same run.memory run.history) wrote)
+-- the listing after a read is the text of its answer, over the words that it read
+pub listed : (memory word : List ℕ) (run : Run) (a : Act) → a ≡ act.Read → memory ≡ run.memory → Done ≡ told_answer run a
+    → listing_text (happens run a).memory (happens run a).history ≡ answer_text memory word run.history a Done
+listed memory word run a read same answered =
+    subst (λ a. Done ≡ told_answer run a → listing_text (happens run a).memory (happens run a).history ≡ answer_text memory word run.history a Done) (sym read)
+    (λ done. ap (λ x. listing_text run.memory (record { act = act.Read; answer = x } ∷ run.history)) (sym done) ∙ listed_same run.memory run.history ∙ ap (λ m. listing_text m run.history) (sym same))
+    answered
 
 -- an area is given back
 none_behind_vfree : (h : History) (o : Operand) → further_acts h (command.Vfree o) ≡ []
@@ -315,13 +294,51 @@ gives_acts : (run : Run) (o : Operand) (a : ℕ) (slot : Option ℕ)
 gives_acts run o a None = let done = all_happen run (act.VmGive a ∷ []) in ap (all_happen done) (none_behind_vfree done.history o)
 gives_acts run o a (Some s) = let done = all_happen run (act.Store (slot_word s) 0 ∷ act.VmGive a ∷ []) in ap (all_happen done) (none_behind_vfree done.history o)
 
-pub gives : (next : Simulation) (run : Run) (o : Operand) (k k' : SinkState) (result : Result (Unit {0}) Failed) (a : ℕ) → Ok a ≡ operand_value (world_after run.history) o
-    → SoFar [] run (all_happen run (vfree_acts (world_after run.history) a)) next k k' result → RunsLine next run (command.Vfree o) k k' result
-gives next run o k k' result a e s =
+pub gives : (says : Saying) (next : Simulation) (run : Run) (o : Operand) (k k' : SinkState) (written : Result (Unit {0}) Failed) (a : ℕ) → Ok a ≡ operand_value (world_after run.history) o
+    → SoFar says run (all_happen run (vfree_acts (world_after run.history) a)) next k k' written → SaysLine says next run (command.Vfree o) k k' (Ok written)
+gives says next run o k k' written a e s =
     let w = world_after run.history in
-    ran next run _ (command.Vfree o) k k' result (vfree_acts w a) s (ap (λ (r : Result ℕ Refusal). then_do r (λ x. Ok (vfree_acts w x))) (sym e)) refl
+    says_line says next run _ (command.Vfree o) k k' written (vfree_acts w a) (ap (λ (r : Result ℕ Refusal). then_do r (λ x. Ok (vfree_acts w x))) (sym e))
     (ap (λ (r : Result ℕ Refusal). behind_acts run (command.Vfree o) (then_do r (λ x. Ok (vfree_acts w x)))) (sym e)
-    ∙ gives_acts run o a (slot_of_area w.used a))
+    ∙ gives_acts run o a (slot_of_area w.used a)) s
+
+pub gives_none : (says : Saying) (machine : Simulation) (run : Run) (o : Operand) (k : SinkState) (r : Refusal) → For machine run → Err r ≡ operand_value (world_after run.history) o
+    → SaysLine says machine run (command.Vfree o) k k (Err r)
+gives_none says machine run o k r f e =
+    let w = world_after run.history in
+    record {
+      behind = run;
+      makes = ap (λ (x : Result ℕ Refusal). behind_acts run (command.Vfree o) (then_do x (λ a. Ok (vfree_acts w a)))) (sym e);
+      stands = f;
+      said = (ap (λ (x : Result ℕ Refusal). then_do x (λ a. Ok (vfree_acts w a))) (sym e), refl);
+    }
+
+-- a line whose events were said by their texts
+abbrev pub texts_of : Command → Saying
+texts_of c memory h act given = answer_text memory (keyword c) h act given
+
+pub printed : (next : Simulation) (run : Run) (c : Command) (k k' : SinkState) (written : Result (Unit {0}) Failed) → is_print c ≡ false
+    → SaysLine (texts_of c) next run c k k' (Ok written) → RunsLine next run c k k' written
+printed next run c k k' written events s =
+    let said = s.said.2 in
+    record {
+      behind = s.behind;
+      makes = s.makes;
+      stands = s.stands;
+      wrote = subst (λ t. WritesAll k k' t written)
+          (said_texts (keyword c) run.memory said.count s.behind.history ∙ sym (line_is said.count run s.behind c s.said.0 s.said.1 (unprinted run.history c events) said.grown)) said.wrote;
+    }
+
+pub refused : (next : Simulation) (run : Run) (c : Command) (k k' k'' : SinkState) (r : Refusal) (written : Result (Unit {0}) Failed)
+    → SaysLine (texts_of c) next run c k k' (Err r) → WritesAll k' k'' (refusal_text r) written → RunsLine next run c k k'' written
+refused next run c k k' k'' r written s wrote = record {
+  behind = s.behind;
+  makes = s.makes;
+  stands = s.stands;
+  wrote = subst (λ t. WritesAll k k'' t written)
+      (ap (λ (x : Acts). elim x as (λ _. List ℕ) [ Err r ↦ refusal_text r | Ok _ ↦ print_text run.history c ++ events_text run.memory (keyword c) (length s.behind.history - length run.history) s.behind.history ]) (sym s.said.0))
+      (subst (λ a. WritesAll a k'' (refusal_text r) written) s.said.1 wrote);
+}
 
 -- acts in two parts
 pub happen_append : (run : Run) (xs ys : List Act) → all_happen run (xs ++ ys) ≡ all_happen (all_happen run xs) ys

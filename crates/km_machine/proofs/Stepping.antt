@@ -1,9 +1,11 @@
 -- A scanner's steps.
-use Rattle.std.proofs.Common.{◌≡◌, ℕ, suc, ◌+◌, ◌-◌, ◌<◌, ◌≤◌, Bool, true, false, List, [], ◌∷◌, length, Option, Some, None, is_none, IsTrue, refl, sym, ap, ◌∙◌, subst, arith}
+use Rattle.std.proofs.Common.{◌≡◌, ℕ, suc, ◌+◌, ◌-◌, ◌<◌, ◌≤◌, Bool, true, false, ◌∷◌, length, Option, Some, None, is_none, IsTrue, Result, refl, sym, ap, ◌∙◌, subst, arith}
 use Rattle.km_base.specs.declared.acts.Act.TheVariants.{Step}
 use Rattle.km_base.specs.declared.acts.Answer.{Answer}
-use Rattle.km_base.specs.declared.acts.Answer.TheVariants.{Done, Ended, Loaded, Refused}
+use Rattle.km_base.specs.declared.acts.Answer.TheVariants.{Ended, Loaded, Refused}
 use Rattle.km_base.specs.declared.acts.Refusal.TheVariants.{NoScanRunning}
+use Rattle.km_edge.specs.declared.errors.Failed.{Failed}
+use Rattle.km_edge.specs.Streams.{SinkState}
 use Rattle.km_model.specs.History.{History}
 use Rattle.km_model.specs.Headline.{IsMemorySize}
 use Rattle.km_model.specs.Past.{Place, is_loaded, last_load, running_scan, scans, world}
@@ -12,21 +14,19 @@ use Rattle.km_model.specs.Verdict.{new_blocks}
 use Rattle.km_model.specs.Answers.{answer, step_answer}
 use Rattle.km_model.specs.Follows.{Run, Follows, happens, past_of, told_answer, told_value}
 use Rattle.km_model.specs.Expansion.{Finishes, is_idle, steps}
-use Rattle.km_model.specs.Output.{answer_text}
 use Rattle.km_laws.specs.Laws.{goes_on}
 use Rattle.km_laws.specs.Left.{left}
 use Rattle.km_laws.proofs.Laws.{all_is_placed, left_is_bounded, loads_lower}
 use Rattle.km_core.proofs.Cores.{one_more}
 use Rattle.km_core.proofs.Places.{bytes_most}
 use Rattle.km_machine.specs.Machines.{Simulation, For}
-use Rattle.km_machine.specs.Scans.{GoesOn, Stepped, shown}
-use Rattle.km_machine.proofs.Going.{goes_event, goes_none}
+use Rattle.km_machine.specs.Lines.{SoFar}
+use Rattle.km_machine.specs.Sayings.{Saying}
+use Rattle.km_machine.specs.Scans.{Stepped}
 
 -- the answer to a step: a load, which leaves less of the scan, or what leaves no scan running
 record IsStep (h : History) (last : Answer) : Type 0 where
-  prints : (memory : List ℕ) → answer_text memory [] h Step last ≡ shown last
-  not_done : last ≡ Done → ⊥
-  loaded : is_loaded last ≡ true → (shown last ≡ []) × (left (past_of (record { act = Step; answer = last } ∷ h)) + 1 ≤ left (past_of h))
+  loaded : is_loaded last ≡ true → left (past_of (record { act = Step; answer = last } ∷ h)) + 1 ≤ left (past_of h)
   stopped : ((a v : ℕ) → last ≡ Loaded a v → ⊥) → (is_loaded last ≡ false) × IsTrue (is_idle (record { act = Step; answer = last } ∷ h))
 
 is_step : (words : ℕ) (h : History) (value : ℕ) → IsStep h (answer words (past_of h) Step value)
@@ -34,8 +34,6 @@ unfolding answer
 is_step words h value =
     elim (running_scan (past_of h)) as (λ o. running_scan (past_of h) ≡ o → IsStep h (elim o as (λ _. Answer) [ None ↦ Refused NoScanRunning | Some _ ↦ step_answer (past_of h) value ])) [
       | None ↦ λ e. record {
-        prints = λ memory. refl;
-        not_done = λ d. (let z : ⊥ = cc in z);
         loaded = λ d. absurd (let z : ⊥ = cc in z);
         stopped = λ _. (refl, subst (λ o. IsTrue (is_none o)) (sym e) refl);
       }
@@ -43,18 +41,11 @@ is_step words h value =
     ] refl where
       stepped : (o : Option Place) → next (past_of h) ≡ o → IsStep h (elim o as (λ _. Answer) [ None ↦ Ended (scans (past_of h)) (length (new_blocks (past_of h))) | Some place ↦ Loaded place.word value ])
       stepped None e = record {
-        prints = λ memory. refl;
-        not_done = λ d. (let z : ⊥ = cc in z);
         loaded = λ d. absurd (let z : ⊥ = cc in z);
         stopped = λ _. (refl, refl);
       }
       stepped (Some place) e = record {
-        prints = λ memory. refl;
-        not_done = λ d. (let z : ⊥ = cc in z);
-        loaded = λ _. (
-          refl,
-          one_more (goes_on (last_load (past_of h)) place) (left (past_of (record { act = Step; answer = Loaded place.word value } ∷ h))) (left (past_of h)) (loads_lower h place value e),
-        );
+        loaded = λ _. one_more (goes_on (last_load (past_of h)) place) (left (past_of (record { act = Step; answer = Loaded place.word value } ∷ h))) (left (past_of h)) (loads_lower h place value e);
         stopped = λ other. absurd (other place.word value refl);
       }
 
@@ -67,82 +58,71 @@ left_few words h size follows =
     omega (arith, blocks, most, placed.room, size.1)
 
 -- so many steps have loaded
-pub record Stepping (machine : Simulation) (run : Run) (most made : ℕ) : Type 0 where
+pub record Stepping (says : Saying) (first run : Run) (most made : ℕ) (machine : Simulation) (k k' : SinkState) (written : Result (Unit {0}) Failed) : Type 0 where
   pub behind : Run
   pub makes : (n : ℕ) → made + n ≡ most → steps n behind ≡ steps most run
-  pub stands : For machine behind
-  pub goes : GoesOn run.history [] behind.history
+  pub so_far : SoFar says first behind machine k k' written
   pub lowers : left (past_of behind.history) + made ≤ left (past_of run.history)
 
-pub stepping_none : (machine : Simulation) (run : Run) (most : ℕ) → For machine run → Stepping machine run most 0
-stepping_none machine run most stands = record {
+pub stepping_none : (says : Saying) (first run : Run) (most : ℕ) (machine : Simulation) (k k' : SinkState) (written : Result (Unit {0}) Failed)
+    → SoFar says first run machine k k' written → Stepping says first run most 0 machine k k' written
+stepping_none says first run most machine k k' written s = record {
   behind = run;
   makes = λ n e. ap (λ k. steps k run) (omega (arith, e));
-  stands = stands;
-  goes = goes_none run.history;
+  so_far = s;
   lowers = omega arith;
 }
 
 -- where all have loaded
-pub all_loaded : (machine : Simulation) (run : Run) (most : ℕ) → Stepping machine run most most → Stepped machine run most Done
-all_loaded machine run most s = record {
+pub all_loaded : (says : Saying) (first run : Run) (most : ℕ) (machine : Simulation) (k k' : SinkState) (written : Result (Unit {0}) Failed)
+    → Stepping says first run most most machine k k' written → Stepped says first run most machine k k' written
+all_loaded says first run most machine k k' written s = record {
   behind = s.behind;
   makes = sym (s.makes 0 (omega arith));
-  stands = s.stands;
-  goes = s.goes;
-  loaded = λ _. s.lowers;
-  stopped = λ other. absurd (other refl);
+  so_far = s.so_far;
+  ended = λ few. absurd (let lowers = s.lowers in omega (arith, few, lowers));
 }
 
 step_once : (n : ℕ) (run : Run) (q : Bool) → is_loaded (told_answer run Step) ≡ q
     → steps (suc n) run ≡ (elim q as (λ _. Run) [ true ↦ steps n (happens run Step) | false ↦ happens run Step ])
 step_once n run q e = ap (λ q. elim q as (λ _. Run) [ true ↦ steps n (happens run Step) | false ↦ happens run Step ]) e
 
-module _ (machine next : Simulation) (run : Run) (most made : ℕ) (last : Answer)
-    (s : Stepping machine run most made) (within : made < most)
-    (happened : (b : Run) → For machine b → For next (happens b Step))
-    (answered : (b : Run) → For machine b → last ≡ told_answer b Step) where
-  is_last : last ≡ told_answer s.behind Step
-  is_last = answered s.behind s.stands
-
+module _ (says : Saying) (first run : Run) (most made : ℕ) (machine next : Simulation) (k k' k'' : SinkState) (written result : Result (Unit {0}) Failed) (last : Answer)
+    (s : Stepping says first run most made machine k k' written) (within : made < most)
+    (answered : last ≡ told_answer s.behind Step)
+    (happened : SoFar says first (happens s.behind Step) next k k'' result) where
   step_was : IsStep s.behind.history (told_answer s.behind Step)
   step_was = is_step s.behind.words s.behind.history (told_value s.behind Step)
 
   -- a step that loads
-  pub stepping_more : is_loaded last ≡ true → Stepping next run most (made + 1)
+  pub stepping_more : is_loaded last ≡ true → Stepping says first run most (made + 1) next k k'' result
   stepping_more e =
-      let loaded = sym (ap is_loaded is_last) ∙ e in
-      let falls = (step_was.loaded loaded).1 in
+      let loaded = sym (ap is_loaded answered) ∙ e in
+      let falls = step_was.loaded loaded in
       record {
         behind = happens s.behind Step;
         makes = λ n is. sym (step_once n s.behind true loaded) ∙ s.makes (suc n) (omega (arith, is));
-        stands = happened s.behind s.stands;
-        goes = goes_event run.history s.behind.history [] [] Step (told_answer s.behind Step) s.goes (λ memory. step_was.prints memory ∙ (step_was.loaded loaded).0);
+        so_far = happened;
         lowers = omega (arith, falls, s.lowers);
       }
 
   -- one that doesn't
-  pub stepped_last : ((a v : ℕ) → last ≡ Loaded a v → ⊥) → Stepped next run most last
+  pub stepped_last : ((a v : ℕ) → last ≡ Loaded a v → ⊥) → Stepped says first run most next k k'' result
   stepped_last other =
-      let stopped = step_was.stopped (λ a v e. other a v (is_last ∙ e)) in
+      let stopped = step_was.stopped (λ a v e. other a v (answered ∙ e)) in
       let n : ℕ = most - suc made in
       record {
         behind = happens s.behind Step;
         makes = sym (s.makes (suc n) (omega (arith, within))) ∙ step_once n s.behind false stopped.0;
-        stands = happened s.behind s.stands;
-        goes = goes_event run.history s.behind.history [] (shown last) Step (told_answer s.behind Step) s.goes (λ memory. step_was.prints memory ∙ ap shown (sym is_last));
-        loaded = λ d. absurd (step_was.not_done (sym is_last ∙ d));
-        stopped = λ _. stopped.1;
+        so_far = happened;
+        ended = λ _. stopped.1;
       }
 
 -- more steps than a scan has end it
-pub finished : (machine next : Simulation) (run : Run) (most : ℕ) (last : Answer) → For machine run → (s : Stepped next run (suc most) last)
-    → 33554432 ≤ suc most → Finishes run s.behind
-finished machine next run most last f s many = (
+pub finished : (says : Saying) (first run : Run) (most : ℕ) (machine next : Simulation) (k k' : SinkState) (written : Result (Unit {0}) Failed) → For machine run
+    → (s : Stepped says first run (suc most) next k k' written) → 33554432 ≤ suc most → Finishes run s.behind
+finished says first run most machine next k k' written f s many = (
   most,
   s.makes,
-  s.stopped (λ d.
-      let few = left_few machine.core.parts.words run.history f.size f.stands.follows in
-      let left = s.loaded d in
-      absurd (omega (arith, few, left, many))),
+  s.ended (let few = left_few machine.core.parts.words run.history f.size f.stands.follows in omega (arith, few, many)),
 )

@@ -25,6 +25,7 @@ use Rattle.km_laws.specs.Members.{Each}
 use Rattle.km_laws.proofs.Laws.{all_is_placed}
 use Rattle.km_machine.specs.Machines.{Simulation, For, Spent}
 use Rattle.km_machine.specs.Lines.{Gave, SoFar}
+use Rattle.km_machine.specs.Sayings.{Saying}
 use Rattle.km_machine.proofs.Lines.{happen_append}
 
 -- the allocations with a new block's
@@ -89,10 +90,10 @@ one_zero run (suc n) start =
     ∙ one_zero (happens run (act.Store start 0)) n (start + 8)
 
 -- so many words of a block were cleared
-pub record Cleared (asked start n : ℕ) (machine next : Simulation) (k' k'' : SinkState) (written result : Result (Unit {0}) Failed) : Type 0 where
+pub record Cleared (says : Saying) (asked start n : ℕ) (machine next : Simulation) (k' k'' : SinkState) (written result : Result (Unit {0}) Failed) : Type 0 where
   pub spent : Spent machine next n 0
-  pub so_far : (word : List ℕ) (first run : Run) (k : SinkState) → Gave (act.Kmalloc asked) start run.history → SoFar word first run machine k k' written
-      → SoFar word first (all_happen run (zeros start n)) next k k'' result
+  pub so_far : (first run : Run) (k : SinkState) → Gave (act.Kmalloc asked) start run.history → SoFar says first run machine k k' written
+      → SoFar says first (all_happen run (zeros start n)) next k k'' result
 
 -- one event more
 spent_on : (machine next third : Simulation) (n : ℕ) → Spent machine next n 0 → Spent next third 1 0 → Spent machine third (n + 1) 0
@@ -107,18 +108,18 @@ spent_on machine next third n s one = record {
 word_address : (words asked start n : ℕ) → Within words asked start → n < kmalloc_span asked / 8 → (start + 8 * n) % 2 ^ 64 ≡ start + 8 * n
 word_address words asked start n w low = (let a = w.end in let b = w.memory in grind (arith, a, b, low))
 
-pub one_cleared : (asked start n w : ℕ) (machine next third : Simulation) (k' k'' k''' : SinkState) (written between result : Result (Unit {0}) Failed)
-    → Cleared asked start n machine next k' k'' written between → (asked ≤ 32768 → n < kmalloc_span asked / 8) → w ≡ (start + 8 * n) % 2 ^ 64
-    → ((word : List ℕ) (first run : Run) (k : SinkState) → SoFar word first run next k k'' between → SoFar word first (happens run (act.Store w 0)) third k k''' result)
-    → Spent next third 1 0 → Cleared asked start (n + 1) machine third k' k''' written result
-one_cleared asked start n w machine next third k' k'' k''' written between result cleared low is more spent = record {
+pub one_cleared : (says : Saying) (asked start n w : ℕ) (machine next third : Simulation) (k' k'' k''' : SinkState) (written between result : Result (Unit {0}) Failed)
+    → Cleared says asked start n machine next k' k'' written between → (asked ≤ 32768 → n < kmalloc_span asked / 8) → w ≡ (start + 8 * n) % 2 ^ 64
+    → ((first run : Run) (k : SinkState) → SoFar says first run next k k'' between → SoFar says first (happens run (act.Store w 0)) third k k''' result)
+    → Spent next third 1 0 → Cleared says asked start (n + 1) machine third k' k''' written result
+one_cleared says asked start n w machine next third k' k'' k''' written between result cleared low is more spent = record {
   spent = spent_on machine next third n cleared.spent spent;
-  so_far = λ word first run k block s.
+  so_far = λ first run k block s.
       let within = block_in machine run asked start s.stands block in
       let address = is ∙ word_address machine.core.parts.words asked start n within (low within.few) in
       let next_is : happens (all_happen run (zeros start n)) (act.Store w 0) ≡ all_happen run (zeros start (n + 1)) =
       ap (λ a. happens (all_happen run (zeros start n)) (act.Store a 0)) address ∙ one_zero run n start ∙ (let e : suc n ≡ n + 1 = omega arith in ap (λ m. all_happen run (zeros start m)) e) in
-      subst (λ x. SoFar word first x third k k''' result) next_is (more word first (all_happen run (zeros start n)) k (cleared.so_far word first run k block s));
+      subst (λ x. SoFar says first x third k k''' result) next_is (more first (all_happen run (zeros start n)) k (cleared.so_far first run k block s));
 }
 
 -- the head of a live area lies in the memory
@@ -141,10 +142,10 @@ head_low machine run s head f e =
     (λ x p. let a = p.1.1 in let b = f.size.1 in omega (arith, a, b)) (world (past_of run.history)).used (all_is_placed machine.core.parts.words run.history f.size f.stands.follows).allocations) e
 
 -- so many values were stored
-pub record Filled (start : ℕ) (values : List ℕ) (n : ℕ) (machine next : Simulation) (k' k'' : SinkState) (written result : Result (Unit {0}) Failed) : Type 0 where
+pub record Filled (says : Saying) (start : ℕ) (values : List ℕ) (n : ℕ) (machine next : Simulation) (k' k'' : SinkState) (written result : Result (Unit {0}) Failed) : Type 0 where
   pub spent : Spent machine next n 0
-  pub so_far : (word : List ℕ) (first run : Run) (k : SinkState) → start + 64 ≤ 2 ^ 64 → SoFar word first run machine k k' written
-      → SoFar word first (all_happen run (stores_from start (take n values))) next k k'' result
+  pub so_far : (first run : Run) (k : SinkState) → start + 64 ≤ 2 ^ 64 → SoFar says first run machine k k' written
+      → SoFar says first (all_happen run (stores_from start (take n values))) next k k'' result
 
 one_store : (run : Run) (n start : ℕ) (values : List ℕ) → n < length values
     → happens (all_happen run (stores_from start (take n values))) (act.Store (start + 8 * n) (get_or values n 0)) ≡ all_happen run (stores_from start (take (suc n) values))
@@ -154,19 +155,19 @@ one_store run (suc n) start (v ∷ vs) low =
     (let e : start + 8 * suc n ≡ (start + 8) + 8 * n = omega arith in ap (λ a. happens (all_happen run (stores_from start (take (suc n) (v ∷ vs)))) (act.Store a (get_or vs n 0))) e)
     ∙ one_store (happens run (act.Store start v)) n (start + 8) vs (omega (arith, low))
 
-pub one_filled : (start : ℕ) (values : List ℕ) (n w : ℕ) (machine next third : Simulation) (k' k'' k''' : SinkState) (written between result : Result (Unit {0}) Failed)
-    → length values ≤ 8 → n < length values → Filled start values n machine next k' k'' written between → w ≡ (start + 8 * n) % 2 ^ 64
-    → ((word : List ℕ) (first run : Run) (k : SinkState) → SoFar word first run next k k'' between → SoFar word first (happens run (act.Store w (get_or values n 0))) third k k''' result)
-    → Spent next third 1 0 → Filled start values (n + 1) machine third k' k''' written result
-one_filled start values n w machine next third k' k'' k''' written between result few low filled is more spent = record {
+pub one_filled : (says : Saying) (start : ℕ) (values : List ℕ) (n w : ℕ) (machine next third : Simulation) (k' k'' k''' : SinkState) (written between result : Result (Unit {0}) Failed)
+    → length values ≤ 8 → n < length values → Filled says start values n machine next k' k'' written between → w ≡ (start + 8 * n) % 2 ^ 64
+    → ((first run : Run) (k : SinkState) → SoFar says first run next k k'' between → SoFar says first (happens run (act.Store w (get_or values n 0))) third k k''' result)
+    → Spent next third 1 0 → Filled says start values (n + 1) machine third k' k''' written result
+one_filled says start values n w machine next third k' k'' k''' written between result few low filled is more spent = record {
   spent = spent_on machine next third n filled.spent spent;
-  so_far = λ word first run k end s.
+  so_far = λ first run k end s.
       let small : start + 8 * n < 2 ^ 64 = omega (arith, few, low, end) in
       let address : w ≡ start + 8 * n = is ∙ mod-eq_of_lt small in
       let next_is : happens (all_happen run (stores_from start (take n values))) (act.Store w (get_or values n 0)) ≡ all_happen run (stores_from start (take (n + 1) values)) =
       ap (λ a. happens (all_happen run (stores_from start (take n values))) (act.Store a (get_or values n 0))) address ∙ one_store run n start values low
       ∙ (let e : suc n ≡ n + 1 = omega arith in ap (λ m. all_happen run (stores_from start (take m values))) e) in
-      subst (λ x. SoFar word first x third k k''' result) next_is (more word first (all_happen run (stores_from start (take n values))) k (filled.so_far word first run k end s));
+      subst (λ x. SoFar says first x third k k''' result) next_is (more first (all_happen run (stores_from start (take n values))) k (filled.so_far first run k end s));
 }
 
 -- a new area's head and slot

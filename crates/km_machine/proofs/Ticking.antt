@@ -1,16 +1,16 @@
 -- Time that moves over automatic scans.
-use Rattle.std.proofs.Common.{◌≡◌, ℕ, zero, suc, ◌+◌, ◌-◌, ◌*◌, ◌<◌, ◌≤◌, Bool, true, false, nat_le, List, [], ◌++◌, Option, Some, None, is_none, Result, Ok, sym, ap, ◌∙◌, subst, arith, if◌then◌else◌}
+use Rattle.std.proofs.Common.{◌≡◌, ℕ, zero, suc, ◌+◌, ◌-◌, ◌*◌, ◌<◌, ◌≤◌, Bool, true, false, nat_le, Option, Some, None, is_none, Result, Ok, sym, ap, ◌∙◌, subst, arith, if◌then◌else◌}
 use Rattle.km_base.specs.declared.acts.Act.TheVariants.{AutoBegin}
-use Rattle.km_base.specs.declared.acts.Answer.{Answer}
 use Rattle.km_edge.specs.declared.errors.Failed.{Failed}
-use Rattle.km_edge.specs.Streams.{SinkState, WritesAll}
-use Rattle.km_edge.proofs.Writing.{wrote_none}
+use Rattle.km_edge.specs.Streams.{SinkState}
 use Rattle.km_model.specs.Follows.{Run, Follows, happens}
 use Rattle.km_model.specs.Expansion.{due_by, run_at, world_after}
 use Rattle.km_core.specs.declared.settings.Settings.{Settings}
 use Rattle.km_machine.specs.Machines.{Simulation, For}
-use Rattle.km_machine.specs.Scans.{GoesOn, ReachesOver, Scanned, ScansUntil, shown}
-use Rattle.km_machine.proofs.Going.{goes_more, goes_none}
+use Rattle.km_machine.specs.Lines.{SoFar}
+use Rattle.km_machine.specs.Sayings.{Saying}
+use Rattle.km_machine.specs.Scans.{ReachesOver, Scanned, ScansUntil}
+use Rattle.km_machine.proofs.Sayings.{begun}
 use Rattle.km_laws.proofs.Since.{follows_answered}
 use Rattle.km_machine.proofs.Timely.{scan_paced}
 
@@ -18,26 +18,20 @@ use Rattle.km_machine.proofs.Timely.{scan_paced}
 pub now_is : (machine : Simulation) (run : Run) → For machine run → (world_after run.history).now ≡ machine.core.parts.settings.now
 now_is machine run stands = sym stands.stands.history.moment ∙ ap (λ (q : Settings). q.now) stands.stands.parts.hosts.settings
 
--- so many automatic scans were made, each but the first a second behind the last at least
-pub record Pacing (machine : Simulation) (target : ℕ) (run : Run) (made : ℕ) (k k' : SinkState) (written : Result (Unit {0}) Failed) : Type 0 where
+-- so many automatic scans were made, each but the first a second after the last at least
+pub record Pacing (says : Saying) (target : ℕ) (run : Run) (made : ℕ) (machine : Simulation) (k k' : SinkState) (written : Result (Unit {0}) Failed) : Type 0 where
   pub behind : Run
   pub over : (run' : Run) → ReachesOver target behind run' → ReachesOver target run run'
-  pub stands : For machine behind
-  pub text : List ℕ
-  pub goes : GoesOn run.history text behind.history
-  pub wrote : WritesAll k k' text written
+  pub so_far : SoFar says run behind machine k k' written
   pub since : (world_after run.history).now ≤ (world_after behind.history).now
   pub paced : (world_after run.history).now + 1000 * made ≤ (world_after behind.history).now + 1000
   pub next : 0 < made → (m : ℕ) → (world_after behind.history).due ≡ Some m → (world_after behind.history).now + 1000 ≤ m
 
-pub pacing_none : (machine : Simulation) (target : ℕ) (run : Run) (k : SinkState) → For machine run → Pacing machine target run 0 k k (Ok tt)
-pacing_none machine target run k stands = record {
+pub pacing_none : (says : Saying) (target : ℕ) (run : Run) (machine : Simulation) (k : SinkState) → For machine run → Pacing says target run 0 machine k k (Ok tt)
+pacing_none says target run machine k stands = record {
   behind = run;
   over = λ run' r. r;
-  stands = stands;
-  text = [];
-  goes = goes_none run.history;
-  wrote = wrote_none k;
+  so_far = begun says machine run k stands;
   since = omega arith;
   paced = omega arith;
   next = λ none. absurd (omega arith);
@@ -57,46 +51,34 @@ a_second_on zero start now later due is since paced far = omega (arith, is, sinc
 a_second_on (suc n) start now later due is since paced far = let second = far (omega arith) in omega (arith, is, paced, second)
 
 -- one more
-pub pacing_more : (machine next : Simulation) (target : ℕ) (run : Run) (made : ℕ) (k k' k'' : SinkState) (written written' : Result (Unit {0}) Failed) (due : ℕ) (last : Answer)
-    → (s : Pacing machine target run made k k' written)
+pub pacing_more : (says : Saying) (target : ℕ) (run : Run) (made due : ℕ) (machine next : Simulation) (k k' k'' : SinkState) (written written' : Result (Unit {0}) Failed)
+    → (s : Pacing says target run made machine k k' written)
     → due_by target (world_after s.behind.history) ≡ Some due
-    → ((b : Run) → For machine b → Scanned next b.history (happens (run_at b due) AutoBegin) last)
-    → ((text : List ℕ) → WritesAll k k' text written → WritesAll k k'' (text ++ shown last) written')
-    → Pacing next target run (made + 1) k k'' written'
-pacing_more machine next target run made k k' k'' written written' due last s is_due scanned writes =
-    let scan = scanned s.behind s.stands in
+    → Scanned says run (happens (run_at s.behind due) AutoBegin) next k k'' written'
+    → Pacing says target run (made + 1) next k k'' written'
+pacing_more says target run made due machine next k k' k'' written written' s is_due scan =
     let due_then = due_is target (world_after s.behind.history).due due is_due in
-    let follows = subst (λ w. Follows w s.behind.history) (sym s.stands.words) s.stands.stands.follows in
+    let f = s.so_far.stands in
+    let follows = subst (λ w. Follows w s.behind.history) (sym f.words) f.stands.follows in
     let pace = scan_paced s.behind scan.behind due (follows_answered s.behind.words s.behind.history follows) due_then scan.makes in
     let now = pace.now in let since = s.since in
     record {
       behind = scan.behind;
       over = λ run' r. s.over run' (suc r.0, (due, is_due, scan.behind, scan.makes, r.1));
-      stands = scan.stands;
-      text = s.text ++ shown last;
-      goes = goes_more run.history s.behind.history scan.behind.history s.text (shown last) s.goes scan.goes;
-      wrote = writes s.text s.wrote;
+      so_far = scan.so_far;
       since = omega (arith, now, since);
       paced = a_second_on made (world_after run.history).now (world_after s.behind.history).now (world_after scan.behind.history).now due pace.now s.since s.paced (λ some. s.next some due due_then);
       next = λ _. pace.next;
     }
 
 -- an hour has no more
-pub paced_out : (machine : Simulation) (target : ℕ) (run : Run) (made start : ℕ) (k k' : SinkState) (written : Result (Unit {0}) Failed)
-    → Pacing machine target run made k k' written → 3602 ≤ made → (world_after run.history).now ≡ start → target ≤ start + 3600000 → machine.core.parts.settings.now ≤ target
-    → ScansUntil machine target run k k' written
-paced_out machine target run made start k k' written s many begin hour ahead =
-    let now = now_is machine s.behind s.stands in let paced = s.paced in absurd (omega (arith, now, paced, many, begin, hour, ahead))
+pub paced_out : (says : Saying) (target : ℕ) (run : Run) (made start : ℕ) (machine : Simulation) (k k' : SinkState) (written : Result (Unit {0}) Failed)
+    → Pacing says target run made machine k k' written → 3602 ≤ made → (world_after run.history).now ≡ start → target ≤ start + 3600000 → machine.core.parts.settings.now ≤ target
+    → ScansUntil says target run machine k k' written
+paced_out says target run made start machine k k' written s many begin hour ahead =
+    let now = now_is machine s.behind s.so_far.stands in let paced = s.paced in absurd (omega (arith, now, paced, many, begin, hour, ahead))
 
 -- none is due any more
-pub paced_until : (machine : Simulation) (target : ℕ) (run : Run) (made : ℕ) (k k' : SinkState) (written : Result (Unit {0}) Failed)
-    → (s : Pacing machine target run made k k' written) → due_by target (world_after s.behind.history) ≡ None → ScansUntil machine target run k k' written
-paced_until machine target run made k k' written s none = record {
-  behind = s.behind;
-  over = s.over;
-  none_due = ap is_none none;
-  stands = s.stands;
-  text = s.text;
-  goes = s.goes;
-  wrote = s.wrote;
-}
+pub paced_until : (says : Saying) (target : ℕ) (run : Run) (made : ℕ) (machine : Simulation) (k k' : SinkState) (written : Result (Unit {0}) Failed)
+    → (s : Pacing says target run made machine k k' written) → due_by target (world_after s.behind.history) ≡ None → ScansUntil says target run machine k k' written
+paced_until says target run made machine k k' written s none = record { behind = s.behind; over = s.over; none_due = ap is_none none; so_far = s.so_far }

@@ -1,3 +1,4 @@
 pub mod Machines
-pub mod Scans
+pub mod Sayings
 pub mod Lines
+pub mod Scans

@@ -7,5 +7,8 @@ pub mod machine;
 mod operands;
 mod print;
 mod scans;
+mod texts;
+pub mod witness;
 
 pub use machine::Machine;
+pub use witness::Witness;

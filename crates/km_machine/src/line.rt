@@ -1,6 +1,6 @@
 //! One line.
 
-ghost use Rattle.std.specs.Prelude.{◌≡◌, ℕ, List, ◌+◌, ◌≤◌, ◌^◌, true, false, [], ◌∷◌, ◌++◌, length, Ok, Err, IfOk};
+ghost use Rattle.std.specs.Prelude.{◌≡◌, ℕ, List, ◌+◌, ◌≤◌, ◌^◌, true, false, [], ◌∷◌, length, Ok, Err, IfOk};
 ghost use Rattle.km_base.specs.declared.acts.Act.{Act};
 ghost use Rattle.km_edge.specs.Streams.{SinkState, WritesAll};
 ghost use Rattle.km_base.specs.declared.lines.Command.TheVariants as command;
@@ -8,18 +8,20 @@ ghost use Rattle.km_model.specs.Follows.{Run, all_happen};
 ghost use Rattle.km_model.specs.Operands.{operand_value, task_or_refusal, then_do};
 ghost use Rattle.km_model.specs.Text.{refusal_text};
 ghost use Rattle.km_model.specs.Expansion.{first_acts, for_register as for_register_of, vfree_acts, world_after};
-ghost use Rattle.km_model.specs.Output.{keyword as keyword_of};
 ghost use Rattle.km_machine.specs.Machines.{For, HasRoom, RunsLine, Spent};
-ghost use Rattle.km_machine.specs.Lines.{SoFar, is_allocation, is_alone, is_memory, is_request, is_simple, acts_of, IsFew};
+ghost use Rattle.km_machine.specs.Lines.{IsFew, SaysLine, SoFar, acts_of, is_allocation, is_alone, is_memory, is_print, is_request, is_simple};
 
-use crate::behind::made;
+use crate::behind::{made, say};
 use crate::machine::Machine;
-use crate::{behind, operands, print, scans};
+use crate::texts::Texts;
+use crate::witness::Witness;
+use crate::{behind, operands, scans};
 use km_base::{Act, Addr, Answer, Base, Command, FileCmd, Operand, Refusal, RegName};
 use km_edge::{Failed, Sink, write_all};
 use km_text::Text;
 
 /// Writes the text of a refusal.
+#[inline(never)]
 fn refuse<K: Sink>(refusal: Refusal, sink: &mut K) -> Result<(), Failed>
     ensures { WritesAll (K.state sink.old) (K.state sink.new) (refusal_text refusal) result }
 {
@@ -115,16 +117,21 @@ fn alone(machine: &Machine, command: &Command) -> Result<Act, Refusal>
     }
 }
 
-/// Runs a line that makes one simple event, if no operand is missing.
-fn run_alone<K: Sink>(machine: &mut Machine, command: &Command, sink: &mut K) -> Result<(), Failed>
+/// Makes the event of a line that makes one simple event, if no operand is missing.
+fn make_alone<W: Witness, K: Sink>(
+    machine: &mut Machine,
+    command: &Command,
+    witness: &W,
+    sink: &mut K,
+) -> Result<Result<(), Failed>, Refusal>
     requires alone { is_alone command.now ≡ true }
     requires room { HasRoom machine.old 1 0 }
-    ensures runs { (run : Run) → For machine.old run → RunsLine machine.new run command.now (K.state sink.old) (K.state sink.new) result }
+    ensures says { (run : Run) → For machine.old run → SaysLine (W.says witness.now) machine.new run command.now (K.state sink.old) (K.state sink.new) result }
     ensures spent { Spent machine.old machine.new 1 0 }
 {
     match alone(machine, command) {
-        Ok(act) => made(machine, act, Ok(()), sink),
-        Err(refusal) => refuse(refusal, sink),
+        Ok(act) => Ok(made(machine, &act, Ok(()), witness, sink)),
+        Err(refusal) => Err(refusal),
     }
 }
 
@@ -158,60 +165,101 @@ fn request(machine: &Machine, command: &Command) -> Result<Act, Refusal>
     }
 }
 
-/// The first word of a line for an allocation.
-fn keyword(command: &Command) -> &'static [u8]
-    requires { is_allocation command.now ≡ true }
-    ensures word { result.now ≡ keyword_of command.now }
-    ensures some { 1 ≤ length result.now }
-    ensures short { length result.now ≤ 16 }
-{
-    match *command {
-        Command::Kmalloc { .. } => b"kmalloc",
-        Command::Kzalloc { .. } => b"kzalloc",
-        Command::Pages { .. } => b"pages",
-        Command::Vmalloc { .. } => b"vmalloc",
-        Command::BootMem { .. } => b"bootmem",
-        _ => unreachable!(),
-    }
-}
-
-/// Makes the request of a line for an allocation, and what is behind it.
-fn requested<K: Sink>(
+/// Makes the request of a line for an allocation, and what comes after it.
+fn requested<W: Witness, K: Sink>(
     machine: &mut Machine,
     command: &Command,
-    act: Act,
+    act: &Act,
+    witness: &W,
     sink: &mut K,
 ) -> Result<(), Failed>
     requires allocation { is_allocation command.now ≡ true }
-    requires request { is_request act ≡ true }
+    requires request { is_request act.now ≡ true }
+    requires asks { W.asks witness.now ≡ true }
     requires room { HasRoom machine.old (2 ^ 14) 0 }
-    ensures runs { (run : Run) → For machine.old run → Ok (act ∷ []) ≡ first_acts (world_after run.history) command.now → RunsLine machine.new run command.now (K.state sink.old) (K.state sink.new) result }
+    ensures says { (run : Run) → For machine.old run → Ok (act.now ∷ []) ≡ first_acts (world_after run.history) command.now → SaysLine (W.says witness.now) machine.new run command.now (K.state sink.old) (K.state sink.new) (Ok result) }
     ensures spent { Spent machine.old machine.new (2 ^ 14) 0 }
 {
     let answer = machine.event(act);
+    let written = say(machine, act, &answer, Ok(()), witness, sink);
     match answer {
-        Answer::At(start) => {
-            let written = print::address(keyword(command), start, sink);
-            behind::acts(machine, command, start, written, sink)
-        }
-        _ => print::answer(answer, sink),
+        Answer::At(start) => behind::acts(machine, command, start, written, witness, sink),
+        _ => written,
     }
 }
 
-/// Runs a line for an allocation.
-fn allocate<K: Sink>(machine: &mut Machine, command: &Command, sink: &mut K) -> Result<(), Failed>
+/// Makes the events of a line for an allocation.
+fn allocate<W: Witness, K: Sink>(
+    machine: &mut Machine,
+    command: &Command,
+    witness: &W,
+    sink: &mut K,
+) -> Result<Result<(), Failed>, Refusal>
     requires allocation { is_allocation command.now ≡ true }
+    requires asks { W.asks witness.now ≡ true }
     requires room { HasRoom machine.old (2 ^ 14) 0 }
-    ensures runs { (run : Run) → For machine.old run → RunsLine machine.new run command.now (K.state sink.old) (K.state sink.new) result }
+    ensures says { (run : Run) → For machine.old run → SaysLine (W.says witness.now) machine.new run command.now (K.state sink.old) (K.state sink.new) result }
     ensures spent { Spent machine.old machine.new (2 ^ 14) 0 }
 {
     match request(machine, command) {
-        Ok(act) => requested(machine, command, act, sink),
-        Err(refusal) => refuse(refusal, sink),
+        Ok(act) => Ok(requested(machine, command, &act, witness, sink)),
+        Err(refusal) => Err(refusal),
     }
 }
 
-/// Runs `print`.
+/// Makes the event of a line that reads the file.
+fn read<W: Witness, K: Sink>(machine: &mut Machine, witness: &W, sink: &mut K) -> Result<(), Failed>
+    requires { HasRoom machine.old 1 0 }
+    ensures says { (run : Run) → For machine.old run → SaysLine (W.says witness.now) machine.new run command.Read (K.state sink.old) (K.state sink.new) (Ok result) }
+    ensures spent { Spent machine.old machine.new 1 0 }
+{
+    let answer = machine.event(&Act::Read);
+    say(machine, &Act::Read, &answer, Ok(()), witness, sink)
+}
+
+/// Clears the slot of an area, and then gives the area back.
+fn give<W: Witness, K: Sink>(
+    machine: &mut Machine,
+    start: u64,
+    witness: &W,
+    sink: &mut K,
+) -> Result<(), Failed>
+    requires { HasRoom machine.old 2 0 }
+    ensures so_far { (run : Run) → For machine.old run → SoFar (W.says witness.now) run (all_happen run (vfree_acts (world_after run.history) start)) machine.new (K.state sink.old) (K.state sink.new) result }
+    ensures spent { Spent machine.old machine.new 2 0 }
+{
+    match machine.core().vm_area(Addr(start)) {
+        Some(area) => {
+            let act = Act::Store {
+                addr: behind::slot_word(area.slot),
+                value: 0,
+            };
+            let written = made(machine, &act, Ok(()), witness, sink);
+            made(machine, &Act::VmGive(start), written, witness, sink)
+        }
+        None => made(machine, &Act::VmGive(start), Ok(()), witness, sink),
+    }
+}
+
+/// Makes the events of `vfree`.
+fn give_area<W: Witness, K: Sink>(
+    machine: &mut Machine,
+    operand: &Operand,
+    witness: &W,
+    sink: &mut K,
+) -> Result<Result<(), Failed>, Refusal>
+    requires { HasRoom machine.old 2 0 }
+    ensures says { (run : Run) → For machine.old run → SaysLine (W.says witness.now) machine.new run (command.Vfree operand.now) (K.state sink.old) (K.state sink.new) result }
+    ensures spent { Spent machine.old machine.new 2 0 }
+{
+    match operands::value(machine, operand) {
+        Ok(start) => Ok(give(machine, start, witness, sink)),
+        Err(refusal) => Err(refusal),
+    }
+}
+
+/// Writes what `print` shows.
+#[inline(never)]
 fn show<K: Sink>(machine: &Machine, operand: &Operand, sink: &mut K) -> Result<(), Failed>
     ensures { (run : Run) → For machine.now run → RunsLine machine.now run (command.Print operand.now) (K.state sink.old) (K.state sink.new) result }
 {
@@ -225,50 +273,41 @@ fn show<K: Sink>(machine: &Machine, operand: &Operand, sink: &mut K) -> Result<(
     }
 }
 
-/// Runs a read of the file.
-fn read<K: Sink>(machine: &mut Machine, sink: &mut K) -> Result<(), Failed>
-    requires { HasRoom machine.old 1 0 }
-    ensures runs { (run : Run) → For machine.old run → RunsLine machine.new run command.Read (K.state sink.old) (K.state sink.new) result }
-    ensures spent { Spent machine.old machine.new 1 0 }
-{
-    match machine.event(Act::Read) {
-        Answer::Done => machine.list(sink),
-        answer => print::answer(answer, sink),
-    }
-}
-
-/// Clears the slot of an area, and then gives the area back.
-fn give<K: Sink>(machine: &mut Machine, start: u64, sink: &mut K) -> Result<(), Failed>
-    requires { HasRoom machine.old 2 0 }
-    ensures so_far { (run : Run) → For machine.old run → SoFar [] run (all_happen run (vfree_acts (world_after run.history) start)) machine.new (K.state sink.old) (K.state sink.new) result }
-    ensures spent { Spent machine.old machine.new 2 0 }
-{
-    match machine.core().vm_area(Addr(start)) {
-        Some(area) => {
-            let act = Act::Store {
-                addr: behind::slot_word(area.slot),
-                value: 0,
-            };
-            let written = made(machine, act, Ok(()), sink);
-            made(machine, Act::VmGive(start), written, sink)
-        }
-        None => made(machine, Act::VmGive(start), Ok(()), sink),
-    }
-}
-
-/// Runs `vfree`.
-fn give_area<K: Sink>(machine: &mut Machine, operand: &Operand, sink: &mut K) -> Result<(), Failed>
-    requires { HasRoom machine.old 2 0 }
-    ensures runs { (run : Run) → For machine.old run → RunsLine machine.new run (command.Vfree operand.now) (K.state sink.old) (K.state sink.new) result }
-    ensures spent { Spent machine.old machine.new 2 0 }
-{
-    match operands::value(machine, operand) {
-        Ok(start) => give(machine, start, sink),
-        Err(refusal) => refuse(refusal, sink),
-    }
-}
-
 impl Machine {
+    /// Makes the events of a line but `print`, which has none, and has a witness say each as soon as it is made.
+    ///
+    /// An `Err` refuses the line, which makes no event then. An `Ok` holds whether a write failed. The events are all
+    /// made, also those after a fault.
+    pub fn events<W: Witness, K: Sink>(
+        &mut self,
+        command: &Command,
+        witness: &W,
+        sink: &mut K,
+    ) -> Result<Result<(), Failed>, Refusal>
+        requires later { (is_memory command.now ≡ false) × (is_print command.now ≡ false) }
+        requires few { IsFew command.now }
+        requires room { HasRoom self.old (2 ^ 38) 3600000 }
+        requires asks { is_allocation command.now ≡ true → W.asks witness.now ≡ true }
+        ensures says { (run : Run) → For self.old run → SaysLine (W.says witness.now) self.new run command.now (K.state sink.old) (K.state sink.new) result }
+        ensures spent { Spent self.old self.new (2 ^ 38) 3600000 }
+    {
+        match *command {
+            Command::Memory(_) | Command::Print(_) => unreachable!(),
+            Command::Write(Some(FileCmd::Scan)) => Ok(scans::scan(self, witness, sink)),
+            Command::Step(n) => Ok(scans::steps(self, n, witness, sink)),
+            Command::Finish => Ok(scans::finish(self, witness, sink)),
+            Command::Tick(n) => Ok(scans::tick(self, n, witness, sink)),
+            Command::Read => Ok(read(self, witness, sink)),
+            Command::Vfree(addr) => give_area(self, &addr, witness, sink),
+            Command::Kmalloc { .. }
+            | Command::Kzalloc { .. }
+            | Command::Pages { .. }
+            | Command::Vmalloc { .. }
+            | Command::BootMem { .. } => allocate(self, command, witness, sink),
+            _ => make_alone(self, command, witness, sink),
+        }
+    }
+
     /// Runs a line. What it is to print is written, or written up to a fault.
     pub fn line<K: Sink>(&mut self, command: &Command, sink: &mut K) -> Result<(), Failed>
         requires later { is_memory command.now ≡ false }
@@ -278,20 +317,26 @@ impl Machine {
         ensures spent { Spent self.old self.new (2 ^ 38) 3600000 }
     {
         match *command {
-            Command::Memory(_) => unreachable!(),
-            Command::Write(Some(FileCmd::Scan)) => scans::scan(self, sink),
-            Command::Step(n) => scans::steps(self, n, sink),
-            Command::Finish => scans::finish(self, sink),
-            Command::Tick(n) => scans::tick(self, n, sink),
             Command::Print(value) => show(self, &value, sink),
-            Command::Read => read(self, sink),
-            Command::Vfree(addr) => give_area(self, &addr, sink),
-            Command::Kmalloc { .. }
-            | Command::Kzalloc { .. }
-            | Command::Pages { .. }
-            | Command::Vmalloc { .. }
-            | Command::BootMem { .. } => allocate(self, command, sink),
-            _ => run_alone(self, command, sink),
+            _ => print_events(self, command, sink),
         }
+    }
+}
+
+/// Makes the events of a line but `print`, and writes their texts.
+fn print_events<K: Sink>(
+    machine: &mut Machine,
+    command: &Command,
+    sink: &mut K,
+) -> Result<(), Failed>
+    requires later { (is_memory command.now ≡ false) × (is_print command.now ≡ false) }
+    requires few { IsFew command.now }
+    requires room { HasRoom machine.old (2 ^ 38) 3600000 }
+    ensures runs { (run : Run) → For machine.old run → RunsLine machine.new run command.now (K.state sink.old) (K.state sink.new) result }
+    ensures spent { Spent machine.old machine.new (2 ^ 38) 3600000 }
+{
+    match machine.events(command, &Texts::of(command), sink) {
+        Ok(written) => written,
+        Err(refusal) => refuse(refusal, sink),
     }
 }

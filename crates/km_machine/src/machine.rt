@@ -56,13 +56,14 @@ impl Machine {
     }
 
     /// Makes one event.
-    pub fn event(&mut self, act: Act) -> Answer
-        requires room { HasRoom self.old 1 (ticks_of act) }
-        ensures happens { (run : Run) → For self.old run → For self.new (happens run act) }
-        ensures answer { (run : Run) → For self.old run → result ≡ told_answer run act }
-        ensures spent { Spent self.old self.new 1 (ticks_of act) }
+    #[inline(always)]
+    pub fn event(&mut self, act: &Act) -> Answer
+        requires room { HasRoom self.old 1 (ticks_of act.now) }
+        ensures happens { (run : Run) → For self.old run → For self.new (happens run act.now) }
+        ensures answer { (run : Run) → For self.old run → result ≡ told_answer run act.now }
+        ensures spent { Spent self.old self.new 1 (ticks_of act.now) }
     {
-        self.core.apply(&mut self.words, act)
+        self.core.apply(&mut self.words, *act)
     }
 
     /// Writes what a read prints: an entry for each listed block, in order of registration.

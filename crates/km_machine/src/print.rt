@@ -22,6 +22,7 @@ use km_verdict::{first_listed, next_listed};
 use km_words::{Plain, Words, in_memory};
 
 /// Writes the address that an allocation was given. `word` is the first word of its line.
+#[inline(never)]
 pub fn address<K: Sink>(word: &[u8], start: u64, sink: &mut K) -> Result<(), Failed>
     requires some { 1 ≤ length word.now }
     requires short { length word.now ≤ 16 }
@@ -33,6 +34,7 @@ pub fn address<K: Sink>(word: &[u8], start: u64, sink: &mut K) -> Result<(), Fai
 }
 
 /// Writes what an answer prints that isn't an address, unless it is that to a read.
+#[inline(never)]
 pub fn answer<K: Sink>(answer: Answer, sink: &mut K) -> Result<(), Failed>
     ensures { WritesAll (K.state sink.old) (K.state sink.new) (shown answer) result }
 {

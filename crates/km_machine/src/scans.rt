@@ -1,78 +1,99 @@
 //! Lines that make scanner steps or move time.
 
-ghost use Rattle.std.specs.Prelude.{◌≡◌, ℕ, ◌+◌, ◌-◌, ◌<◌, ◌≤◌, ◌^◌, ◌++◌, List, Some, IfSome};
+ghost use Rattle.std.specs.Prelude.{◌≡◌, ℕ, ◌+◌, ◌-◌, ◌<◌, ◌≤◌, ◌^◌, Ok, Some, IfSome};
 ghost use Rattle.km_base.specs.declared.acts.Act.TheVariants as act;
 ghost use Rattle.km_base.specs.declared.acts.FileCmd.TheVariants as word;
-ghost use Rattle.km_edge.specs.Streams.{SinkState, WritesAll};
+ghost use Rattle.km_edge.specs.Streams.{SinkState};
 ghost use Rattle.km_base.specs.declared.lines.Command.TheVariants as command;
 ghost use Rattle.km_model.specs.Expansion.{due_by as due_in, newest_answer, run_at, world_after};
 ghost use Rattle.km_model.specs.Follows.{Run, happens};
-ghost use Rattle.km_model.specs.History.{History};
-ghost use Rattle.km_machine.specs.Machines.{For, HasRoom, RunsLine, Spent};
-ghost use Rattle.km_machine.specs.Scans.{GoesOn, Scanned, ScansUntil, Stepped, shown};
+ghost use Rattle.km_machine.specs.Machines.{For, HasRoom, Spent};
+ghost use Rattle.km_machine.specs.Lines.{SaysLine, SoFar};
+ghost use Rattle.km_machine.specs.Scans.{Scanned, ScansUntil, Stepped};
 
+use crate::behind::say;
 use crate::machine::Machine;
-use crate::print;
+use crate::witness::Witness;
 use km_base::{Act, Answer, FileCmd};
 use km_edge::{Failed, Sink};
 
 /// More steps than a scan has: it loads at most five times the words of the greatest memory.
-const MOST_STEPS: u64 = 33_554_432;
+const SCAN_STEPS: u64 = 33_554_432;
 
 /// More automatic scans than fall due in an hour, a second apart.
 const MOST_SCANS: u64 = 3_602;
 
 /// At most so many scanner steps; the last is the one that doesn't load.
-pub fn steps<K: Sink>(machine: &mut Machine, n: u64, sink: &mut K) -> Result<(), Failed>
-    requires few { n ≤ 1000000000 }
-    requires room { HasRoom machine.old n 0 }
-    ensures runs { (run : Run) → For machine.old run → RunsLine machine.new run (command.Step n) (K.state sink.old) (K.state sink.new) result }
+pub fn steps<W: Witness, K: Sink>(
+    machine: &mut Machine,
+    n: u64,
+    witness: &W,
+    sink: &mut K,
+) -> Result<(), Failed>
+    requires { HasRoom machine.old n 0 }
+    ensures says { (run : Run) → For machine.old run → SaysLine (W.says witness.now) machine.new run (command.Step n) (K.state sink.old) (K.state sink.new) (Ok result) }
     ensures spent { Spent machine.old machine.new n 0 }
 {
-    let last = step_on(machine, n);
-    print::answer(last, sink)
+    step_on(machine, n, Ok(()), witness, sink)
 }
 
 /// Scanner steps until no scan runs; one, which is refused, if none ran.
-pub fn finish<K: Sink>(machine: &mut Machine, sink: &mut K) -> Result<(), Failed>
+pub fn finish<W: Witness, K: Sink>(
+    machine: &mut Machine,
+    witness: &W,
+    sink: &mut K,
+) -> Result<(), Failed>
     requires { HasRoom machine.old (2 ^ 25) 0 }
-    ensures runs { (run : Run) → For machine.old run → RunsLine machine.new run command.Finish (K.state sink.old) (K.state sink.new) result }
+    ensures says { (run : Run) → For machine.old run → SaysLine (W.says witness.now) machine.new run command.Finish (K.state sink.old) (K.state sink.new) (Ok result) }
     ensures spent { Spent machine.old machine.new (2 ^ 25) 0 }
 {
-    let last = step_on(machine, MOST_STEPS);
-    print::answer(last, sink)
+    step_on(machine, SCAN_STEPS, Ok(()), witness, sink)
 }
 
 /// A whole scan, if none runs.
-pub fn scan<K: Sink>(machine: &mut Machine, sink: &mut K) -> Result<(), Failed>
+pub fn scan<W: Witness, K: Sink>(
+    machine: &mut Machine,
+    witness: &W,
+    sink: &mut K,
+) -> Result<(), Failed>
     requires { HasRoom machine.old (2 ^ 25 + 1) 0 }
-    ensures runs { (run : Run) → For machine.old run → RunsLine machine.new run (command.Write (Some word.Scan)) (K.state sink.old) (K.state sink.new) result }
+    ensures says { (run : Run) → For machine.old run → SaysLine (W.says witness.now) machine.new run (command.Write (Some word.Scan)) (K.state sink.old) (K.state sink.new) (Ok result) }
     ensures spent { Spent machine.old machine.new (2 ^ 25 + 1) 0 }
 {
-    let begun = machine.event(Act::File(FileCmd::Scan));
-    let last = scan_on(machine, begun);
-    print::answer(last, sink)
+    let act = Act::File(FileCmd::Scan);
+    let begun = machine.event(&act);
+    let written = say(machine, &act, &begun, Ok(()), witness, sink);
+    scan_on(machine, begun, written, witness, sink)
 }
 
 /// Moves time by so many milliseconds, over the automatic scans that fall due.
-pub fn tick<K: Sink>(machine: &mut Machine, n: u64, sink: &mut K) -> Result<(), Failed>
+pub fn tick<W: Witness, K: Sink>(
+    machine: &mut Machine,
+    n: u64,
+    witness: &W,
+    sink: &mut K,
+) -> Result<(), Failed>
     requires few { n ≤ 3600000 }
     requires room { HasRoom machine.old (2 ^ 37) n }
-    ensures runs { (run : Run) → For machine.old run → RunsLine machine.new run (command.Tick n) (K.state sink.old) (K.state sink.new) result }
+    ensures says { (run : Run) → For machine.old run → SaysLine (W.says witness.now) machine.new run (command.Tick n) (K.state sink.old) (K.state sink.new) (Ok result) }
     ensures spent { Spent machine.old machine.new (2 ^ 37) n }
 {
     let target = machine.core().now() + n;
-    let written = automatic_scans(machine, target, sink);
-    move_to(machine, target);
-    written
+    let written = automatic_scans(machine, target, witness, sink);
+    move_to(machine, target, written, witness, sink)
 }
 
 /// Makes the automatic scans that are due by a moment.
-fn automatic_scans<K: Sink>(machine: &mut Machine, target: u64, sink: &mut K) -> Result<(), Failed>
+fn automatic_scans<W: Witness, K: Sink>(
+    machine: &mut Machine,
+    target: u64,
+    witness: &W,
+    sink: &mut K,
+) -> Result<(), Failed>
     requires ahead { machine.old.core.parts.settings.now ≤ target }
     requires few { target ≤ machine.old.core.parts.settings.now + 3600000 }
     requires room { HasRoom machine.old (2 ^ 37) (target - machine.old.core.parts.settings.now) }
-    ensures runs { (run : Run) → For machine.old run → ScansUntil machine.new target run (K.state sink.old) (K.state sink.new) result }
+    ensures scans { (run : Run) → For machine.old run → ScansUntil (W.says witness.now) target run machine.new (K.state sink.old) (K.state sink.new) result }
     ensures spent { Spent machine.old machine.new (2 ^ 37 - 1) (target - machine.old.core.parts.settings.now) }
 {
     let mut written = Ok(());
@@ -80,22 +101,29 @@ fn automatic_scans<K: Sink>(machine: &mut Machine, target: u64, sink: &mut K) ->
         let Some(due) = due_by(machine, target) else {
             return written;
         };
-        let last = automatic_scan(machine, due);
-        written = put_behind(written, last, sink);
+        written = automatic_scan(machine, due, written, witness, sink);
     }
     // No hour has so many.
     written
 }
 
-/// Makes the automatic scan that is due at a moment, and gives the last answer.
-fn automatic_scan(machine: &mut Machine, due: u64) -> Answer
+/// Makes the automatic scan that is due at a moment.
+fn automatic_scan<W: Witness, K: Sink>(
+    machine: &mut Machine,
+    due: u64,
+    written: Result<(), Failed>,
+    witness: &W,
+    sink: &mut K,
+) -> Result<(), Failed>
     requires { HasRoom machine.old (2 ^ 25 + 2) (due - machine.old.core.parts.settings.now) }
-    ensures scanned { (run : Run) → For machine.old run → Scanned machine.new run.history (happens (run_at run due) act.AutoBegin) result }
+    ensures scanned { (first run : Run) (k : SinkState) → SoFar (W.says witness.now) first run machine.old k (K.state sink.old) written
+        → Scanned (W.says witness.now) first (happens (run_at run due) act.AutoBegin) machine.new k (K.state sink.new) result }
     ensures spent { Spent machine.old machine.new (2 ^ 25 + 2) (due - machine.old.core.parts.settings.now) }
 {
-    move_to(machine, due);
-    let begun = machine.event(Act::AutoBegin);
-    scan_on(machine, begun)
+    let moved = move_to(machine, due, written, witness, sink);
+    let begun = machine.event(&Act::AutoBegin);
+    let said = say(machine, &Act::AutoBegin, &begun, moved, witness, sink);
+    scan_on(machine, begun, said, witness, sink)
 }
 
 /// When the next automatic scan is due, if it is by a moment.
@@ -110,51 +138,64 @@ fn due_by(machine: &Machine, target: u64) -> Option<u64>
 }
 
 /// Moves time to a moment that isn't before it.
-fn move_to(machine: &mut Machine, moment: u64)
+fn move_to<W: Witness, K: Sink>(
+    machine: &mut Machine,
+    moment: u64,
+    written: Result<(), Failed>,
+    witness: &W,
+    sink: &mut K,
+) -> Result<(), Failed>
     requires { HasRoom machine.old 1 (moment - machine.old.core.parts.settings.now) }
-    ensures moved { (run : Run) → For machine.old run → For machine.new (run_at run moment) }
+    ensures moved { (first run : Run) (k : SinkState) → SoFar (W.says witness.now) first run machine.old k (K.state sink.old) written
+        → SoFar (W.says witness.now) first (run_at run moment) machine.new k (K.state sink.new) result }
     ensures spent { Spent machine.old machine.new 1 (moment - machine.old.core.parts.settings.now) }
 {
-    let wait = moment.saturating_sub(machine.core().now());
-    let _ = machine.event(Act::Tick(wait));
+    let act = Act::Tick(moment.saturating_sub(machine.core().now()));
+    let answer = machine.event(&act);
+    say(machine, &act, &answer, written, witness, sink)
 }
 
-/// Makes a whole scan if an event began one, by its answer, and gives the last answer.
-fn scan_on(machine: &mut Machine, begun: Answer) -> Answer
+/// Makes a whole scan if an event began one, by its answer.
+fn scan_on<W: Witness, K: Sink>(
+    machine: &mut Machine,
+    begun: Answer,
+    written: Result<(), Failed>,
+    witness: &W,
+    sink: &mut K,
+) -> Result<(), Failed>
     requires { HasRoom machine.old (2 ^ 25) 0 }
-    ensures scanned { (first : History) (run : Run) → For machine.old run → newest_answer run.history ≡ Some begun → GoesOn first (shown begun) run.history
-        → Scanned machine.new first run result }
+    ensures scanned { (first run : Run) (k : SinkState) → newest_answer run.history ≡ Some begun → SoFar (W.says witness.now) first run machine.old k (K.state sink.old) written
+        → Scanned (W.says witness.now) first run machine.new k (K.state sink.new) result }
     ensures spent { Spent machine.old machine.new (2 ^ 25) 0 }
 {
     match begun {
-        Answer::Done => step_on(machine, MOST_STEPS),
-        refused => refused,
+        Answer::Done => step_on(machine, SCAN_STEPS, written, witness, sink),
+        _ => written,
     }
 }
 
-/// Makes at most so many scanner steps, and gives the answer of the one that doesn't load, or `Done`.
-fn step_on(machine: &mut Machine, most: u64) -> Answer
-    requires { HasRoom machine.old most 0 }
-    ensures stepped { (run : Run) → For machine.old run → Stepped machine.new run most result }
-    ensures spent { Spent machine.old machine.new most 0 }
-{
-    for _ in 0..most {
-        match machine.event(Act::Step) {
-            Answer::Loaded { .. } => {}
-            last => return last,
-        }
-    }
-    Answer::Done
-}
-
-/// Writes what an answer prints, unless an earlier write failed.
-fn put_behind<K: Sink>(
+/// Makes at most so many scanner steps; the last is the one that doesn't load.
+fn step_on<W: Witness, K: Sink>(
+    machine: &mut Machine,
+    most: u64,
     written: Result<(), Failed>,
-    answer: Answer,
+    witness: &W,
     sink: &mut K,
 ) -> Result<(), Failed>
-    ensures { (k : SinkState) (text : List ℕ) → WritesAll k (K.state sink.old) text written → WritesAll k (K.state sink.new) (text ++ shown answer) result }
+    requires { HasRoom machine.old most 0 }
+    ensures stepped { (first run : Run) (k : SinkState) → SoFar (W.says witness.now) first run machine.old k (K.state sink.old) written
+        → Stepped (W.says witness.now) first run most machine.new k (K.state sink.new) result }
+    ensures spent { Spent machine.old machine.new most 0 }
 {
-    written?;
-    print::answer(answer, sink)
+    let mut written = written;
+    for _ in 0..most {
+        let answer = machine.event(&Act::Step);
+        match answer {
+            Answer::Loaded { .. } => {
+                written = say(machine, &Act::Step, &answer, written, witness, sink);
+            }
+            _ => return say(machine, &Act::Step, &answer, written, witness, sink),
+        }
+    }
+    written
 }

@@ -1,22 +1,18 @@
-use Rattle.std.proofs.Common.{Some, sym, ap, subst}
+use Rattle.std.proofs.Common.{◌∷◌, [], Some, sym, ap, refl}
 use Rattle.km_base.specs.declared.acts.Act.TheVariants as act
 use Rattle.km_base.specs.declared.acts.FileCmd.TheVariants as word
-use Rattle.km_edge.specs.Streams.{WritesAll}
+use Rattle.km_base.specs.declared.lines.Command.TheVariants as command
 use Rattle.km_model.specs.Follows.{happens}
-use Rattle.km_machine.proofs.Going.{goes_text}
-use Rattle.km_machine.proofs.Scanning.{goes_scan}
+use Rattle.km_machine.proofs.Lines.{says_line}
+use Rattle.km_machine.proofs.Sayings.{said_none}
 use Rattle.km_machine.proofs.scans.scan.Goals as goal
 
-pub returns-clause-runs : goal.returns-clause-runs
-returns-clause-runs g c = λ run stands.
+pub returns-clause-says : goal.returns-clause-says
+returns-clause-says g c = λ run stands.
+    let says = g.W.Witness.says c.args.witness.now in
+    let k = g.K.Sink.state c.args.sink.now in
     let e = c.event-begun.ensures in
     let answered = e.answer run stands in
-    let s = c.scan_on-last.ensures.scanned run.history (happens run (act.File word.Scan)) (e.happens run stands) (ap Some (sym answered)) (goes_scan run _ answered) in
-    let k = g.K.Sink.state c.args.sink.now in
-    let k' = g.K.Sink.state c.answer.new.sink in
-    record {
-      behind = s.behind;
-      makes = s.makes;
-      stands = s.stands;
-      wrote = subst (λ t. WritesAll k k' t c.answer.result) (sym (goes_text run.memory run.history s.behind.history _ s.goes)) c.answer.ensures;
-    }
+    let one = c.say-written.ensures.so_far run run k (said_none says run k) (e.happens run stands) answered (λ request. absurd (let z : ⊥ = cc in z)) (λ read. absurd (let z : ⊥ = cc in z)) in
+    let s = c.scan_on.ensures.scanned run (happens run (act.File word.Scan)) k (ap Some (sym answered)) one in
+    says_line says c.scan_on.new.machine run s.behind (command.Write (Some word.Scan)) k (g.K.Sink.state c.scan_on.new.sink) c.scan_on.result (act.File word.Scan ∷ []) refl s.makes s.so_far

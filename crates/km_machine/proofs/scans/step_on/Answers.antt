@@ -1,37 +1,48 @@
-use Rattle.std.proofs.Common.{◌≡◌, subst, ap, arith}
+use Rattle.std.proofs.Common.{◌≡◌, sym, ap, subst, arith}
 use Rattle.km_model.specs.Past.{is_loaded}
+use Rattle.km_machine.specs.Machines.{Spent}
 use Rattle.km_machine.proofs.Rooms.{room_left, spent_more, spent_none}
 use Rattle.km_machine.proofs.Stepping.{Stepping, all_loaded, stepped_last, stepping_more, stepping_none}
 use Rattle.km_machine.proofs.scans.step_on.Goals as goal
 
 pub loop-init : goal.loop-init
-loop-init c = record { stepping = λ run stands. stepping_none _ run _ stands; spent = spent_none _ }
+loop-init g c = record { stepping = λ first run k s. stepping_none _ first run _ _ k _ _ s; spent = spent_none _ }
 
-pub event-requires : goal.event-requires
-event-requires c = record { room = room_left _ _ _ _ _ _ _ _ c.requires c.loop.invariant.spent (omega arith) (omega arith) }
+pub event-answer-requires : goal.event-answer-requires
+event-answer-requires g c = record { room = room_left _ _ _ _ _ _ _ _ c.requires c.loop.invariant.spent (omega arith) (omega arith) }
 
 pub returns-in_default : goal.returns-in_default
-returns-in_default c =
+returns-in_default g c =
     let i = c.loop.invariant in
-    let e = c.event.ensures in
+    let e = c.event-answer.ensures in
     record {
-      stepped = λ run stands. stepped_last _ _ run _ _ _ (i.stepping run stands) c.loop-test.true e.happens e.answer c.in_default.not-Loaded;
-      spent = spent_more _ _ _ _ _ _ _ _ _ i.spent e.spent (omega arith) (omega arith);
+      stepped = λ first run k s.
+          let t = i.stepping first run k s in
+          let stands = t.so_far.stands in
+          stepped_last _ first run _ _ _ _ k _ _ _ _ c.event-answer.result t c.loop-test.true (e.answer t.behind stands)
+          (c.say.ensures.so_far first t.behind k t.so_far.said (e.happens t.behind stands) (e.answer t.behind stands) (λ request. absurd (let z : ⊥ = cc in z)) (λ read. absurd (let z : ⊥ = cc in z)))
+          c.in_default.not-Loaded;
+      spent = spent_more _ c.loop.machine _ c.loop.counter 1 0 0 _ _ i.spent (subst (λ x. Spent c.loop.machine x 1 0) (sym c.say.ensures.same) e.spent) (omega arith) (omega arith);
     }
 
 pub loop-preserved : goal.loop-preserved
-loop-preserved c =
+loop-preserved g c =
     let i = c.loop.invariant in
-    let e = c.event.ensures in
+    let e = c.event-answer.ensures in
     record {
-      stepping = λ run stands. stepping_more _ _ run _ _ _ (i.stepping run stands) c.loop-test.true e.happens e.answer (ap is_loaded c.in-Loaded.is);
-      spent = spent_more _ _ _ _ _ _ _ _ _ i.spent e.spent (omega arith) (omega arith);
+      stepping = λ first run k s.
+          let t = i.stepping first run k s in
+          let stands = t.so_far.stands in
+          stepping_more _ first run _ _ _ _ k _ _ _ _ c.event-answer.result t c.loop-test.true (e.answer t.behind stands)
+          (c.say-written.ensures.so_far first t.behind k t.so_far.said (e.happens t.behind stands) (e.answer t.behind stands) (λ request. absurd (let z : ⊥ = cc in z)) (λ read. absurd (let z : ⊥ = cc in z)))
+          (ap is_loaded c.in-Loaded.is);
+      spent = spent_more _ c.loop.machine _ c.loop.counter 1 0 0 _ _ i.spent (subst (λ x. Spent c.loop.machine x 1 0) (sym c.say-written.ensures.same) e.spent) (omega arith) (omega arith);
     }
 
 pub returns-clause-stepped : goal.returns-clause-stepped
-returns-clause-stepped c = λ run stands.
+returns-clause-stepped g c = λ first run k s.
     let all : c.loop.counter ≡ c.args.most = omega arith in
-    all_loaded _ run _ (subst (λ n. Stepping c.loop.machine run c.args.most n) all (c.loop.invariant.stepping run stands))
+    all_loaded _ first run _ _ k _ _ (subst (λ n. Stepping (g.W.Witness.says c.args.witness.now) first run c.args.most n c.loop.machine k (g.K.Sink.state c.loop.sink) c.loop.written) all (c.loop.invariant.stepping first run k s))
 
 pub returns-clause-spent : goal.returns-clause-spent
-returns-clause-spent c = spent_more _ _ _ _ _ _ _ _ _ c.loop.invariant.spent (spent_none _) (omega arith) (omega arith)
+returns-clause-spent g c = spent_more _ _ _ _ _ _ _ _ _ c.loop.invariant.spent (spent_none _) (omega arith) (omega arith)

@@ -8,7 +8,7 @@ returns-clause-happens c = λ run stands.
     let i = c.self.inside in
     let old : Simulation = record { core = i.core; memory = i.words } in
     let r = subst (λ x. For x run) (sym c.self.view_is) stands in
-    act_happens old (record { core = c.apply.new.self; memory = c.apply.new.words }) run c.args.act c.apply.result _ r
+    act_happens old (record { core = c.apply.new.self; memory = c.apply.new.words }) run c.args.act.now c.apply.result _ r
     (c.apply.ensures.history run.history r.state r.stands) (c.apply.ensures.stands run.history r.state r.stands) c.apply.ensures.touches c.apply.ensures.words
 
 pub returns-clause-answer : goal.returns-clause-answer
@@ -16,5 +16,5 @@ returns-clause-answer c = λ run stands.
     let i = c.self.inside in
     let old : Simulation = record { core = i.core; memory = i.words } in
     let r = subst (λ x. For x run) (sym c.self.view_is) stands in
-    core_told old c.apply.new.words run c.args.act c.apply.result r
+    core_told old c.apply.new.words run c.args.act.now c.apply.result r
     (c.apply.ensures.history run.history r.state r.stands) c.apply.ensures.touches
