@@ -98,6 +98,15 @@ impl Booked {
         self.journal.as_slice()
     }
 
+    /// How many entries the journal has room for, beside a last halt.
+    pub fn entries(&self) -> u64
+        ensures entries { result ≡ self.now.entries }
+        ensures small { self.now.entries ≤ 4194304 }
+        ensures kept { IsBook self.now }
+    {
+        self.entries
+    }
+
     /// Makes an act and adds its entry to the journal, unless that is full. It takes no memory.
     pub fn act<W: Words>(&mut self, by: u32, words: &mut W, act: Act) -> Result<Answer, JournalFull>
         requires size { (W.told words.old).size ≡ self.old.core.parts.words }
