@@ -1,10 +1,11 @@
 -- What one act on the book makes, by what the token knows.
-use Rattle.std.proofs.Common.{◌≡◌, ℕ, suc, ◌+◌, ◌≤◌, ◌<◌, ◌^◌, Bool, true, false, List, [], ◌∷◌, ◌++◌, length, drop, Option, Some, None, refl, sym, ◌∙◌, ap, subst, arith, append-nil, length-append}
+use Rattle.std.proofs.Common.{◌≡◌, ℕ, ◌+◌, ◌≤◌, ◌<◌, ◌^◌, false, List, [], ◌∷◌, ◌++◌, length, drop, Option, Some, None, refl, sym, ◌∙◌, ap, subst, arith, append-nil, length-append}
+use Rattle.atomic_table.specs.Seated.{TableId}
 use Rattle.km_base.specs.declared.acts.Act.{Act}
 use Rattle.km_base.specs.declared.acts.Act.TheVariants as act
 use Rattle.km_base.specs.declared.acts.Answer.{Answer}
-use Rattle.km_base.specs.declared.acts.Answer.TheVariants.{At, Done, Loaded}
-use Rattle.km_core.specs.Cores.{Seen, Stands}
+use Rattle.km_base.specs.declared.acts.Answer.TheVariants.{Done, Loaded}
+use Rattle.km_core.specs.Cores.{Stands}
 use Rattle.km_core.specs.Parts.{Touches}
 use Rattle.km_model.specs.History.{History, value_of}
 use Rattle.km_model.specs.Headline.{IsMemorySize}
@@ -19,12 +20,12 @@ use Rattle.km_rounds.specs.declared.entry.Entry.{Entry}
 use Rattle.km_rounds.specs.Journals.{entries_by, entry, room_for, ticks_in, with_journal}
 use Rattle.km_numbered.specs.Members.{AllBy}
 use Rattle.km_laws.proofs.Answered.{blocks_lie, only_loads_load}
-use Rattle.km_live_words.specs.Hands.{HandOn, told_of}
-use Rattle.km_live_map.specs.Books.{Book, IsBook, IsCoreFor, IsFullFor}
+use Rattle.km_live_words.specs.Hands.{HandOn}
+use Rattle.km_live_map.specs.Books.{Book, IsBook}
 use Rattle.km_live_map.specs.Ticks.{OnlyFirstTicks}
 use Rattle.km_live_map.specs.Views.{Knows, View, after_give, after_take}
 use Rattle.km_workers.specs.Workers.{Acted, IsFit, May, Stepped, is_store, loads_of, with_steps}
-use Rattle.km_live_workers.specs.AtBooks.{Answered, IsBegun, IsBegunAs, IsOpening, acting_of, limit_of, moment_of, words_of}
+use Rattle.km_live_workers.specs.AtBooks.{Answered, IsBegun, IsBegunAs, IsOpening, acting_at, limit_of, moment_of, words_of}
 use Rattle.km_live_workers.proofs.Parts.{drop_first, part_length, ticks_first}
 
 -- the token that took a book knows of it what it knew before
@@ -91,10 +92,10 @@ pub none_touched : (t u : Told) → u ≡ t → Stepped t u (loads_of None)
 none_touched t u f = subst (λ x. Stepped t x []) (sym f) (untouched t)
 
 -- the book goes back with the token's own entry more, or as it came
-pub goes_back : (v : View) (b c : Book) (what : Act) (s t : HandOn) (result : Option Answer) (size : ℕ) → May (acting_of v) size what → Answered (after_take v b) b c what s t result
+pub goes_back : (baton : TableId) (v : View) (b c : Book) (what : Act) (s t : HandOn) (result : Option Answer) (size : ℕ) → May (acting_at baton v) size what → Answered (after_take v b) b c what s t result
     → (new : List Entry) × (c.journal ≡ b.journal ++ new) × AllBy (λ (e : Entry). e.by) v.member.number new × OnlyFirstTicks new
-goes_back v b c what s t None size may a = ([], a.made.0 ∙ sym (append-nil b.journal), tt, tt)
-goes_back v b c what s t (Some given) size may a = (entry v.member.number what given ∷ [], a.made.0, (refl, tt), ((λ n is. (may.ticks n is).0), tt))
+goes_back baton v b c what s t None size may a = ([], a.made.0 ∙ sym (append-nil b.journal), tt, tt)
+goes_back baton v b c what s t (Some given) size may a = (entry v.member.number what given ∷ [], a.made.0, (refl, tt), ((λ n is. (may.ticks n is).0), tt))
 
 limit_is : (v : View) (b : Book) → Knows v b → limit_of v.about ≡ b.entries
 limit_is v b k = ap limit_of k.about
@@ -104,9 +105,9 @@ own_short : (v : View) (b : Book) → Knows v b → length v.member.own ≤ leng
 own_short v b k = subst (λ (xs : List Entry). length xs ≤ length b.journal) k.own (part_length v.member.number b.journal)
 
 -- after a take, an act and a give
-pub acted : (v : View) (b c : Book) (what : Act) (s t : HandOn) (result : Option Answer) → Knows v b → Answered (after_take v b) b c what s t result
-    → Acted (acting_of v) (acting_of (after_give (after_take v b) c)) what result
-acted v b c what s t None k a =
+pub acted : (baton : TableId) (v : View) (b c : Book) (what : Act) (s t : HandOn) (result : Option Answer) → Knows v b → Answered (after_take v b) b c what s t result
+    → Acted (acting_at baton v) (acting_at baton (after_give (after_take v b) c)) what result
+acted baton v b c what s t None k a =
     let left : drop (length b.journal) c.journal ≡ [] = ap (drop (length b.journal)) (a.made.0 ∙ sym (append-nil b.journal)) ∙ drop_first b.journal [] in
     let same : v.member.own ++ drop (length b.journal) c.journal ≡ v.member.own = ap (λ xs. v.member.own ++ xs) left ∙ append-nil v.member.own in
     let long : length c.journal ≡ length b.journal = ap length a.made.0 in
@@ -124,7 +125,7 @@ acted v b c what s t None k a =
     full limit high long =
         let high' : room_for (limit_of v.about) what ≤ length b.journal = subst (λ n. room_for n what ≤ length b.journal) (sym limit) high in
         omega (arith, high', long)
-acted v b c what s t (Some given) k a =
+acted baton v b c what s t (Some given) k a =
     let left : drop (length b.journal) c.journal ≡ entry v.member.number what given ∷ [] =
     ap (drop (length b.journal)) a.made.0 ∙ drop_first b.journal (entry v.member.number what given ∷ []) in
     let own : v.member.own ++ drop (length b.journal) c.journal ≡ v.member.own ++ entry v.member.number what given ∷ [] = ap (λ xs. v.member.own ++ xs) left in

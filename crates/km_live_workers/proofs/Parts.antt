@@ -1,5 +1,5 @@
 -- Parts of a journal.
-use Rattle.std.proofs.Common.{◌≡◌, ℕ, zero, suc, ◌+◌, ◌≤◌, ◌==◌, Bool, true, false, List, [], ◌∷◌, ◌++◌, length, drop, if◌then◌else◌, refl, sym, ◌∙◌, ap, subst, arith, eq-eqb}
+use Rattle.std.proofs.Common.{◌≡◌, ℕ, suc, ◌+◌, ◌≤◌, ◌==◌, Bool, true, false, List, [], ◌∷◌, ◌++◌, length, drop, if◌then◌else◌, refl, sym, ◌∙◌, ap, arith, eq-eqb}
 use Rattle.std.proofs.lemmas.Bool.{both_ways}
 use Rattle.std.proofs.lemmas.List.Sums.{sum_by-cons}
 use Rattle.km_base.specs.declared.acts.Act.{Act}
@@ -7,7 +7,7 @@ use Rattle.km_base.specs.declared.acts.Act.TheVariants.{Tick}
 use Rattle.km_model.specs.History.{ticks_of}
 use Rattle.km_rounds.specs.declared.entry.Entry.{Entry}
 use Rattle.km_rounds.specs.Journals.{entries_by, ticks_in}
-use Rattle.km_live_map.specs.Ticks.{TicksByFirst, OnlyFirstTicks}
+use Rattle.km_live_map.specs.Ticks.{OnlyFirstTicks}
 
 -- a part is no longer than its whole
 pub part_length : (k : ℕ) (es : List Entry) → length (entries_by es k) ≤ length es

@@ -1,5 +1,5 @@
 -- What a token tells of a worker's journal, and what an act on the book makes.
-use Rattle.std.specs.Prelude.{◌≡◌, ℕ, ◌+◌, ◌<◌, ◌^◌, false, List, [], ◌∷◌, ◌++◌, Option, Some, None, MatchOption}
+use Rattle.std.specs.Prelude.{◌≡◌, ℕ, ◌+◌, ◌<◌, ◌^◌, false, [], ◌∷◌, ◌++◌, Option, Some, None, MatchOption}
 use Rattle.atomic_table.specs.Seated.{TableId}
 use Rattle.km_base.specs.declared.acts.Act.{Act}
 use Rattle.km_base.specs.declared.acts.Answer.{Answer}
@@ -7,7 +7,7 @@ use Rattle.km_core.specs.Cores.{Seen}
 use Rattle.km_model.specs.History.{History}
 use Rattle.km_model.specs.Headline.{IsMemorySize}
 use Rattle.km_rounds.specs.Journals.{entry}
-use Rattle.km_live_words.specs.Hands.{HandOn, told_of}
+use Rattle.km_live_words.specs.Hands.{HandOn, name_of, told_of}
 use Rattle.km_live_map.specs.Books.{Book, IsBook, IsCoreFor, IsFullFor}
 use Rattle.km_live_map.specs.Views.{TokenOf, View}
 use Rattle.km_workers.specs.Workers.{Acting, IsFit, Stepped, loads_of}
@@ -25,16 +25,21 @@ abbrev pub moment_of : Option (Seen × ℕ) → ℕ
 moment_of None = 0
 moment_of (Some a) = a.0.parts.settings.now
 
--- what a worker knows of the journal by its token
-abbrev pub acting_of : View → Acting
-acting_of v = record {
+-- what a worker knows of the journal at a baton, by what its token knows
+abbrev pub acting_at : TableId → View → Acting
+acting_at baton v = record {
   by = v.member.number;
+  book = name_of baton;
   limit = limit_of v.about;
   words = words_of v.about;
   moment = moment_of v.about;
   own = v.member.own;
   most = v.most;
 }
+
+-- what a worker knows of the journal by its token
+abbrev pub acting_of : TokenOf → Acting
+acting_of t = acting_at t.baton t.view
 
 -- the opening state stands for a history, its memory has an allowed size, and few enough events lead to the end of the journal
 pub record IsOpening (core : Seen) (entries : ℕ) : Type 0 where

@@ -1,6 +1,6 @@
 //! A worker's acts on the book that threads hand on.
 
-ghost use Rattle.std.specs.Prelude.{◌≡◌};
+ghost use Rattle.std.specs.Prelude.{◌≡◌, false};
 ghost use Rattle.km_live_map.specs.Views.{Knows};
 ghost use Rattle.km_live_words.specs.Hands.{told_of};
 ghost use Rattle.km_workers.specs.Workers.{Acted, May, Stepped, loads_of};
@@ -46,7 +46,7 @@ fn made<'a>(
     requires knows { Knows token.now.view book.old }
     requires begun { IsBegun token.now.view }
     requires number { token.now.view.member.number ≡ by }
-    requires may { May (acting_of token.now.view) (told_of seated.old).size act }
+    requires may { May (acting_of token.now) (told_of seated.old).size act }
     ensures { Answered token.now.view book.old book.new act seated.old seated.new result }
 {
     let _ = book.journal();
@@ -69,9 +69,9 @@ fn made_at<'a, R: Wait>(
     act: Act,
 ) -> Option<Answer>
     requires idle { IsIdle token.old baton.now by }
-    requires may { May (acting_of token.old.view) (told_of seated.old).size act }
+    requires may { May (acting_of token.old) (told_of seated.old).size act }
     ensures idle { IsIdle token.new baton.now by }
-    ensures acted { Acted (acting_of token.old.view) (acting_of token.new.view) act result }
+    ensures acted { Acted (acting_of token.old) (acting_of token.new) act result }
     ensures stepped { Stepped (told_of seated.old) (told_of seated.new) (loads_of result) }
 {
     let mut book = baton.take(rt, token);
@@ -97,6 +97,7 @@ impl<'a, R> AtBook<'a, R> {
     /// The token.
     pub fn into_token(self) -> Token
         ensures token { result ≡ self.entry }
+        ensures idle { result.view.holding ≡ false }
     {
         let AtBook { token, .. } = self;
         token
@@ -106,7 +107,7 @@ impl<'a, R> AtBook<'a, R> {
 impl<'a, R: Wait, G: Gate> Acts<Gated<'a, G>> for AtBook<'a, R> {
     ghost use Rattle.km_live_workers.specs.AtBooks.{acting_of};
 
-    ghost acting = { λ h. acting_of h.view };
+    ghost acting = { acting_of };
 
     fn act(&mut self, words: &mut Gated<'a, G>, act: Act) -> Option<Answer> {
         let call = words.enter();

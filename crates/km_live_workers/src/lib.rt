@@ -6,10 +6,12 @@ mod at_book;
 mod gate;
 mod gated;
 mod seats;
+mod threads;
 mod workers;
 
 pub use at_book::AtBook;
 pub use gate::{Gate, OpenGate};
 pub use gated::Gated;
 pub use seats::{Chief, Seat, Shared};
-pub use workers::Worker;
+pub use threads::{Scanner, together, work_all};
+pub use workers::{Job, Worker};

@@ -1,15 +1,14 @@
 //! How the workers of a round get their hands and tokens, and give them back.
 
-ghost use Rattle.std.specs.Prelude.{◌≡◌, IfOk};
-ghost use Rattle.km_live_map.specs.Views.{after_split};
+ghost use Rattle.std.specs.Prelude.{◌≡◌};
+ghost use Rattle.km_live_map.specs.Views.{after_join, after_split};
 ghost use Rattle.km_live_workers.specs.Runs.{HasScanned, MayScan};
-ghost use Rattle.km_live_workers.specs.Seats.{IsChief, newly_at, newly_on};
-ghost use Rattle.km_numbered.specs.Members.{with_next};
+ghost use Rattle.km_live_workers.specs.Seats.{IsChief, IsSeated, newly_at, newly_on};
+ghost use Rattle.km_numbered.specs.Members.{with_kept, with_next};
 
 use crate::at_book::AtBook;
 use crate::gate::Gate;
 use crate::gated::Gated;
-use km_base::NoMemory;
 use km_live_map::{Baton, Token};
 use km_live_words::{Hand, LiveWords};
 use km_workers::scan;
@@ -17,6 +16,7 @@ use std::alloc::Global;
 use std::sync::Wait;
 
 /// What the workers of a round share.
+#[derive(Drop)]
 pub struct Shared<'a, R, G> {
     pub rt: &'a R,
     pub words: &'a LiveWords,
@@ -40,26 +40,38 @@ pub struct Seat<'a, R, G> {
 
 impl<'a, R: Wait, G: Gate> Shared<'a, R, G> {
     /// Splits off a hand and a token of the next number.
-    pub fn seat(
-        &self,
-        alloc: Global,
-        chief: &mut Chief,
-        number: u32,
-    ) -> Result<Seat<'a, R, G>, NoMemory>
+    pub fn seat(&self, alloc: Global, chief: &mut Chief, number: u32) -> Seat<'a, R, G>
         requires chief { IsChief self.now.words.now self.now.baton.now chief.old.hand chief.old.token }
         requires number { (chief.old.hand.hand.next ≡ number) × (chief.old.token.view.member.next ≡ number) }
         ensures chief { IsChief self.now.words.now self.now.baton.now chief.new.hand chief.new.token }
         ensures hand { chief.new.hand.hand ≡ with_next chief.old.hand.hand }
         ensures token { chief.new.token.view ≡ after_split chief.old.token.view }
-        ensures words { IfOk result (λ s. s.words ≡ newly_on self.now.words.now number) }
-        ensures book { IfOk result (λ s. s.book ≡ newly_at self.now.baton.now chief.old.token.view) }
+        ensures words { result.words ≡ newly_on self.now.words.now number }
+        ensures book { result.book ≡ newly_at self.now.baton.now chief.old.token.view }
     {
         let hand = self.words.split(&mut chief.hand);
-        let token = self.baton.split(self.rt, alloc, &mut chief.token)?;
-        Ok(Seat {
+        let Ok(token) = self.baton.split(self.rt, alloc, &mut chief.token) else {
+            unreachable!()
+        };
+        Seat {
             words: Gated::new(self.words.at(hand), self.gate, number),
             book: AtBook::new(self.rt, self.baton, token, number),
-        })
+        }
+    }
+
+    /// Takes a seat in: the numbers, the steps and the entries of its hand and of its token are kept in the first ones.
+    pub fn unseat(&self, chief: &mut Chief, seat: Seat<'a, R, G>)
+        requires chief { IsChief self.now.words.now self.now.baton.now chief.old.hand chief.old.token }
+        requires seat { IsSeated self.now.words.now self.now.baton.now seat.words seat.book }
+        ensures chief { IsChief self.now.words.now self.now.baton.now chief.new.hand chief.new.token }
+        ensures hand { chief.new.hand.hand ≡ with_kept chief.old.hand.hand seat.entry.words.hand.hand }
+        ensures token { chief.new.token.view ≡ after_join chief.old.token.view seat.entry.book.view }
+    {
+        let Seat { words, book } = seat;
+        let hand = words.into_seated().into_hand();
+        self.words.join(&mut chief.hand, hand);
+        self.baton
+            .join(self.rt, &mut chief.token, book.into_token());
     }
 }
 

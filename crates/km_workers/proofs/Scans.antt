@@ -116,7 +116,7 @@ turn_cut a b c t u v result second is acted stepped halted stepped' =
       made_then a b c t u v (made_none a b t u act.Step f x) (made_none b c u v act.Halt h s),
       λ gap n. (
         (let full = full_below a b act.Step f in let more = h.more in omega (arith, full, more)),
-        inr (let low = h.made.1 in let high = h.within in let limit : b.limit ≡ a.limit = ap (λ (y : Acting). y.limit) f.same in omega (arith, low, high, limit)),
+        inr (n, refl, (let low = h.made.1 in let high = h.within in let limit : b.limit ≡ a.limit = ap (λ (y : Acting). y.limit) f.same in omega (arith, low, high, limit))),
       ),
     )
 
@@ -126,7 +126,7 @@ cut_then a b c gap s m xs ys limit f k = (
   (let x = k.0 in omega (arith, limit, x)),
   (elim k.1 [
     | inl there ↦ inl (there.0, leads_then gap s xs ys m there.0 f there.1, there.2)
-    | inr most ↦ inr (most ∙ ap (λ n. n + 1) limit)
+    | inr there ↦ inr (there.0, leads_then gap s xs ys m (AtStep there.0) f there.1, there.2 ∙ ap (λ n. n + 1) limit)
   ]),
 )
 
@@ -236,7 +236,7 @@ pub scans_cut : (a b c : Acting) (t u v : Told) (scans gap i : ℕ) → i < scan
 scans_cut a b c t u v scans gap i lt f leads k one =
     let cut = cut_then a b c gap (AtTick scans) (AtTick (scans - i)) f.entries k.entries (limit_same a b t u f) leads
     (subst (λ m. IsCut b c gap (AtTick m) k.entries) (before scans i lt) (one (scans - (i + 1)))) in
-    (made_then a b c t u v f k, (cut.0, elim cut.1 [ inl there ↦ inl (leads_course gap (AtTick scans) (f.entries ++ k.entries) there.0 false there.1 there.2) | inr most ↦ inr most ]))
+    (made_then a b c t u v f k, (cut.0, elim cut.1 [ inl there ↦ inl (leads_course gap (AtTick scans) (f.entries ++ k.entries) there.0 false there.1 there.2) | inr there ↦ inr there ]))
   where
     before : (s j : ℕ) → j < s → suc (s - (j + 1)) ≡ s - j
     before s j less = omega (arith, less)

@@ -16,10 +16,12 @@ use Rattle.km_workers.specs.declared.scanner.Turn.TheVariants as turn
 use Rattle.km_rounds.specs.Journals.{Journal, loads_in, room_for, ticks_in, with_loaded}
 use Rattle.km_live_model.specs.Courses.{Mutator, Stage, AtTick, AtStep, Makes, Course, act_in, ends_at, entry_of, is_next_act, is_scanner_course, leaves_out, stage_after, made_at, registers_after, step_at, steps_in, with_value}
 
--- what a worker knows: its number, how many entries the journal may have beside a halt, the number of words of the core
--- and the moment at the begin of the round; its own entries; and the greatest length of the journal that it saw
+-- what a worker knows: its number, which book it is at, as numbers, how many entries the journal may have beside a halt,
+-- the number of words of the core and the moment at the begin of the round; its own entries; and the greatest length of
+-- the journal that it saw
 pub record Acting : Type 0 where
   pub by : ℕ
+  pub book : List ℕ
   pub limit : ℕ
   pub words : ℕ
   pub moment : ℕ
@@ -147,9 +149,13 @@ abbrev pub MakesOne : (a b : Acting) → Journal → Act → Bool → Type 0
 MakesOne a b entries what true = (answer : Answer) × (entries ≡ record { by = a.by; act = what; answer = answer } ∷ [])
 MakesOne a b entries what false = (entries ≡ []) × (a.limit ≤ b.most)
 
+-- the scanner couldn't even make its halt: a scan of it is running, and someone else's halt has the place
+abbrev pub IsOusted : (a b : Acting) → ℕ → Stage → Journal → Type 0
+IsOusted a b gap stage entries = (n : ℕ) × Leads gap stage entries (AtStep n) × (b.most ≡ a.limit + 1)
+
 -- the scanner was cut: after its halt, or where no scan runs, or where someone else's halt has its place
 abbrev pub IsCut : (a b : Acting) → ℕ → Stage → Journal → Type 0
-IsCut a b gap stage entries = (a.limit ≤ b.most) × (((after : Stage) × Leads gap stage entries after × (ends_at after false ≡ true)) ⊎ (b.most ≡ a.limit + 1))
+IsCut a b gap stage entries = (a.limit ≤ b.most) × (((after : Stage) × Leads gap stage entries after × (ends_at after false ≡ true)) ⊎ IsOusted a b gap stage entries)
 
 -- a turn of the scanner: a step that goes on with the scan, one that ends it, or the halt
 abbrev pub IsTurn : (a b : Acting) → Journal → Turn → Type 0
@@ -170,4 +176,4 @@ IsOneScan a b gap entries false = (n : ℕ) → IsCut a b gap (AtTick (suc n)) e
 -- the scanner's course, whole, or cut
 abbrev pub IsScan : (a b : Acting) → ℕ → ℕ → Journal → Bool → Type 0
 IsScan a b scans gap entries true = is_scanner_course gap (AtTick scans) entries true ≡ true
-IsScan a b scans gap entries false = (a.limit ≤ b.most) × ((is_scanner_course gap (AtTick scans) entries false ≡ true) ⊎ (b.most ≡ a.limit + 1))
+IsScan a b scans gap entries false = (a.limit ≤ b.most) × ((is_scanner_course gap (AtTick scans) entries false ≡ true) ⊎ IsOusted a b gap (AtTick scans) entries)
