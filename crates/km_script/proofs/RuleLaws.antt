@@ -9,14 +9,14 @@ use Rattle.km_script.specs.declared.keywords.Keyword.{Keyword}
 use Rattle.km_script.specs.Keywords.{text_of, read_as, all_keywords, keyword_in}
 
 -- the rule of a keyword
-abbrev rule_of : Keyword → Rule
+abbrev pub rule_of : Keyword → Rule
 rule_of k = record { keyword = text_of k; read = read_as k }
 
-rules_are : map rule_of all_keywords ≡ rules
+pub rules_are : map rule_of all_keywords ≡ rules
 rules_are = refl
 
 -- what a word is read as that is this keyword or none
-abbrev by_keyword : Option Keyword → Piece → ℕ → List Piece → Reading
+abbrev pub by_keyword : Option Keyword → Piece → ℕ → List Piece → Reading
 by_keyword None p end ps = refused_at p.column
 by_keyword (Some k) p end ps = read_as k end ps
 
@@ -29,11 +29,11 @@ by_rules (k ∷ ks) p end ps =
     ]
 
 -- the table of commands, by keywords
-apply_by_keyword : (p : Piece) (end : ℕ) (ps : List Piece) (o : Option Keyword) → keyword_in all_keywords p.bytes ≡ o → apply_rule rules p end ps ≡ by_keyword o p end ps
+pub apply_by_keyword : (p : Piece) (end : ℕ) (ps : List Piece) (o : Option Keyword) → keyword_in all_keywords p.bytes ≡ o → apply_rule rules p end ps ≡ by_keyword o p end ps
 apply_by_keyword p end ps o e =
     ap (λ rs. apply_rule rs p end ps) (sym rules_are) ∙ by_rules all_keywords p end ps ∙ ap (λ k. by_keyword k p end ps) e
 
-found : (ks : List Keyword) (word : List ℕ) (k : Keyword) → keyword_in ks word ≡ Some k → text_of k ≡ word
+pub found : (ks : List Keyword) (word : List ℕ) (k : Keyword) → keyword_in ks word ≡ Some k → text_of k ≡ word
 found [] word k e = absurd (cc)
 found (j ∷ ks) word k e = by_test (bytes_eq (text_of j) word) refl (found ks word k) e
   where
