@@ -18,6 +18,7 @@ use Rattle.km_model.specs.Text.{as_text_line}
 use Rattle.km_model.specs.Output.{between_line_feeds}
 use Rattle.km_rounds.specs.declared.entry.Entry.{Entry}
 use Rattle.km_rounds.specs.Journals.{event_of}
+use Rattle.km_entries.specs.declared.sizes.TheConstants.{LONGEST_JOURNAL}
 use Rattle.km_entries.specs.declared.lines.Said.{Said}
 use Rattle.km_entries.specs.declared.lines.Said.TheVariants as said
 use Rattle.km_entries.specs.declared.lines.JournalLine.{JournalLine}
@@ -187,7 +188,7 @@ at_limit n c rest = if nat_le (length rest) LONGEST_LINE then check.TooLong else
 
 -- the most bytes of a journal file
 abbrev pub limit : ℕ
-limit = 1073741824
+limit = LONGEST_JOURNAL
 
 -- how a check of a journal file ends
 abbrev pub outcome_of : List ℕ → Outcome

@@ -3,6 +3,7 @@
 
 pub mod laws;
 pub mod lines;
+pub mod sizes;
 pub mod status;
 
 pub use lines::{JournalLine, Said};

@@ -3,6 +3,7 @@ use Rattle.std.proofs.Common.{◌≡◌, ◌≢◌, ℕ, List, [], ◌++◌, len
 use Rattle.std.proofs.lemmas.List.{append-nil, append_cancel_left, take-append-drop}
 use Rattle.km_edge.specs.Streams.{SourceState, SinkState, Rose, StoppedAt, Wrote}
 use Rattle.km_edge.proofs.Writing.{wrote_none, wrote_out}
+use Rattle.km_model.proofs.Cases.{some_same}
 use Rattle.km_reader.specs.Causes.{AtMemory, Ends, EndsBy, EndsFrom, EndsOver, EndsWithin}
 use Rattle.km_reader.specs.Lines.{IsLeft, IsPrefix}
 use Rattle.km_reader.proofs.Caused.{ends_as_told, ends_over, has_cause}
@@ -118,9 +119,6 @@ ok_comes s s' k k' replay result (Some text) c e w =
       λ kept. (all.0, (ap (λ (o : Outcome). o.status) all.1.1, same), (all.2, kept)),
     ))
     w
-  where
-    some_same : (x y : List ℕ) → Some x ≡ Some y → x ≡ y
-    some_same x y e = cc
 
 pub comes : (s s' : SourceState) (k k' : SinkState) (replay : Option Replay) (ended result : CheckStatus) → ChecksFile s s' replay ended → WritesText (text_of ended replay) ended k k' result → Comes s s' k k' result
 comes s s' k k' replay check.Ok result c w = ok_comes s s' k k' replay result (text_of check.Ok replay) c refl w

@@ -1,6 +1,7 @@
 -- Journal files as the table of causes takes them, and how a check of lines ends.
 use Rattle.std.specs.Prelude.{◌≡◌, ℕ, ◌+◌, ◌≤◌, ◌⊎◌, true, nat_le, List, [], ◌++◌, length, Option, None, Some, if◌then◌else◌}
 use Rattle.std.specs.Io.KnownBytes.{Consumes}
+use Rattle.km_base.specs.declared.sizes.TheConstants.{LONGEST_LINE}
 use Rattle.km_edge.specs.Streams.{SourceState, SinkState, StoppedAt, Rose, Wrote}
 use Rattle.km_model.specs.Output.{between_line_feeds}
 use Rattle.km_reader.specs.Causes.{AtEnd, AtLine, AtLimit, AtMemory, AtNothing, AtRead, AtWrite, Cause, Language}
@@ -32,7 +33,7 @@ status_of bytes = (outcome_of bytes).status
 
 -- how the lines end that came before a read failed; a piece that is too long for a line is refused whatever comes after it
 abbrev pub at_fault : ℕ → Checked → List ℕ → CheckStatus
-at_fault n c rest = if nat_le (length rest) 256 then check.ReadFault else check.NotALine n
+at_fault n c rest = if nat_le (length rest) LONGEST_LINE then check.ReadFault else check.NotALine n
 
 -- no line of these bytes is refused
 abbrev pub GoesOn : List ℕ → Type 0

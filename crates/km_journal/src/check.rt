@@ -8,13 +8,11 @@ use crate::replay::{Judged, Replay};
 use km_base::NoMemory;
 use km_base::sizes::{MOST_WORDS, PAGE_WORDS};
 use km_edge::Source;
+use km_entries::sizes::LONGEST_JOURNAL;
 use km_entries::{CheckStatus, JournalLine};
 use km_journal_lines::read_journal_line;
 use km_reader::{Next, Reader};
 use std::alloc::Global;
-
-/// The most bytes of a journal file.
-const LIMIT: u64 = 1_073_741_824;
 
 /// Whether a memory can have so many words.
 fn is_memory_size(words: u64) -> bool
@@ -127,7 +125,7 @@ pub fn check_from<S: Source>(check: &mut Check, alloc: Global, source: &mut S) -
     requires none { check.old.replay ≡ None }
     ensures { ChecksFile (S.state source.old) (S.state source.new) check.new.replay result }
 {
-    let mut reader = Reader::new(LIMIT);
+    let mut reader = Reader::new(LONGEST_JOURNAL);
     loop {
         match reader.next(source) {
             Next::Line => {

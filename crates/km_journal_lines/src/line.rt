@@ -9,10 +9,8 @@ use crate::answers::read_said;
 use crate::numbers::maker;
 use crate::words::Words;
 use km_base::compare::is;
+use km_base::sizes::LONGEST_LINE;
 use km_entries::{JournalLine, Said};
-
-/// The greatest length of a line without its line feed, in bytes.
-const LONGEST_LINE: usize = 256;
 
 /// A line, if no word is left.
 fn alone(line: JournalLine, words: &Words) -> Option<JournalLine>
