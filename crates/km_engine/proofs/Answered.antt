@@ -3,19 +3,18 @@ use Rattle.std.proofs.Common.{◌≡◌, ℕ, List, [], ◌++◌, ◌⊎◌, inl
 use Rattle.std.proofs.lemmas.List.{append-nil, append_cancel_left}
 use Rattle.km_base.specs.declared.status.Status.{Status}
 use Rattle.km_base.specs.declared.status.Status.TheVariants as status
-use Rattle.km_model.specs.Output.{Script, Fresh, Prints, lines_of, status_of}
+use Rattle.km_model.specs.Output.{Script, Fresh, Prints, lines_of}
 use Rattle.km_edge.specs.Streams.{SourceState, SinkState, Rose}
 use Rattle.km_forms.specs.Checks.{cause_of, checked}
 use Rattle.km_forms.specs.declared.words.Form.{Form}
-use Rattle.km_forms.proofs.Checked.{check_ends, check_exact, check_never_bad}
-use Rattle.km_reader.specs.Causes.{EndsAsTold, EndsBy, EndsFrom, Language}
+use Rattle.km_reader.specs.Causes.{AtMemory, EndsAsTold, EndsBy, EndsFrom, EndsOver, Language}
 use Rattle.km_reader.specs.Lines.{IsPrefix}
+use Rattle.km_reader.proofs.Caused.{ends_as_told, ends_over, has_cause}
 use Rattle.km_reader.proofs.Sources.{some_left}
 use Rattle.km_engine.specs.Headline.{AreShown, Headline, lines_run}
 use Rattle.km_engine.specs.Outcome.{scripts}
-use Rattle.km_engine.specs.Program.{Does, IsChecked, IsRun}
+use Rattle.km_engine.specs.Program.{Does, IsAnswered, IsChecked, IsRun}
 use Rattle.km_engine.specs.Steps.{RunsScript}
-use Rattle.km_engine.proofs.Runs.{never_bad, run_ends, run_exact}
 use Rattle.km_engine.proofs.Shown.{shows}
 use Rattle.km_engine.proofs.Totals.{has_output}
 
@@ -38,6 +37,38 @@ complete_by l bytes taken remaining written s s' k k' status.ReadFault parts lef
 complete_by l bytes taken remaining written s s' k k' status.WriteFault parts left e told r w good = absurd (w e.0)
 complete_by l bytes taken remaining written s s' k k' status.NoMemory parts left e told r w good = inl refl
 complete_by l bytes taken remaining written s s' k k' (status.BadWords n) parts left e told r w good = absurd e
+
+short_of_memory : (ended : Status) → cause_of ended ≡ AtMemory → ended ≡ status.NoMemory
+short_of_memory status.NoMemory e = refl
+short_of_memory status.Ok e = absurd (cc)
+short_of_memory (status.NotACommand _ _) e = absurd (cc)
+short_of_memory status.ReadFault e = absurd (cc)
+short_of_memory status.WriteFault e = absurd (cc)
+short_of_memory (status.BadWords _) e = absurd (cc)
+short_of_memory status.TooLong e = absurd (cc)
+
+-- a language whose statuses tell the causes of scripts
+abbrev pub HasCauses : Language Status → Type 0
+HasCauses l = (ended : Status) → l.cause ended ≡ cause_of ended
+
+exact_by : (l : Language Status) → HasCauses l → (bytes : List ℕ) (s s' : SourceState) (k k' : SinkState) (ended : Status) → EndsOver l bytes s s' k k' ended
+    → ¬ Rose s.faults s'.faults → ¬ Rose k.faults k'.faults → (ended ≡ status.NoMemory → ⊥) → EndsAsTold l bytes k k' ended
+exact_by l same bytes s s' k k' ended over f w m =
+    ends_as_told l s s' k k' ended bytes over f w (λ short. m (short_of_memory ended (sym (same ended) ∙ short)))
+
+-- an input is answered that is read to such an end
+pub answered : (l : Language Status) → HasCauses l → (s s' : SourceState) (k k' : SinkState) (ended : Status) → EndsFrom l s s' k k' ended → IsAnswered l s s' k k' ended
+answered l same s s' k k' ended r = record {
+  good_words = λ n bad. has_cause l s s' k k' ended r (same ended ∙ ap cause_of bad);
+  causes = r;
+  ends = λ bytes told. ends_over l s s' k k' ended bytes r told;
+  exact = λ bytes told f w m. exact_by l same bytes s s' k k' ended (ends_over l s s' k k' ended bytes r told) f w m;
+  complete = λ bytes told f w good.
+      let over = ends_over l s s' k k' ended bytes r told in
+      complete_by l bytes over.taken over.remaining over.written s s' k k' ended over.parts over.left
+      (subst (λ c. EndsBy l bytes over.taken over.written s s' k k' ended c) (same ended) over.ends)
+      (λ m. exact_by l same bytes s s' k k' ended over f w m) f w good;
+}
 
 -- what lines show that printed this
 shown : (lines : List (List ℕ)) (written : List ℕ) (ended : Status) (end : Script) → Prints Fresh 1 lines end written → AreShown lines written ended
@@ -79,32 +110,15 @@ headline_of : (s s' : SourceState) (k k' : SinkState) (ended : Status) (run : En
 headline_of s s' k k' ended run = λ remaining left. shown_by (run.taken ++ remaining) run.taken run.written s s' k k' ended (run.ends remaining left)
 
 pub is_run : (s s' : SourceState) (k k' : SinkState) (ended : Status) (machine : _) → RunsScript s s' k k' machine ended → IsRun s s' k k' ended
+unfolding answered
 is_run s s' k k' ended machine r = record {
-  answered = record {
-    good_words = λ n bad. never_bad s s' k k' machine ended n r bad;
-    causes = r.run;
-    ends = λ bytes told. run_ends s s' k k' ended bytes machine r told;
-    exact = λ bytes told f w m. run_exact s s' k k' ended bytes (run_ends s s' k k' ended bytes machine r told) f w m;
-    complete = λ bytes told f w good.
-        let over = run_ends s s' k k' ended bytes machine r told in
-        complete_by scripts bytes over.taken over.remaining over.written s s' k k' ended over.parts over.left over.ends
-        (λ m. run_exact s s' k k' ended bytes over f w m) f w good;
-  };
+  answered = answered scripts (λ x. refl) s s' k k' ended r.run;
   headline = headline_of s s' k k' ended r.run;
 }
 
 pub is_checked : (s s' : SourceState) (k k' : SinkState) (ended : Status) → EndsFrom checked s s' k k' ended → IsChecked s s' k k' ended
 is_checked s s' k k' ended r = record {
-  answered = record {
-    good_words = λ n bad. check_never_bad s s' k k' ended n r bad;
-    causes = r;
-    ends = λ bytes told. check_ends s s' k k' ended bytes r told;
-    exact = λ bytes told f w _. check_exact s s' k k' ended bytes (check_ends s s' k k' ended bytes r told) f w;
-    complete = λ bytes told f w good.
-        let over = check_ends s s' k k' ended bytes r told in
-        complete_by checked bytes over.taken over.remaining over.written s s' k k' ended over.parts over.left over.ends
-        (λ _. check_exact s s' k k' ended bytes over f w) f w good;
-  };
+  answered = answered checked (λ x. refl) s s' k k' ended r;
   remembers = λ short.
       let left = some_left s'.left in
       (subst (λ (x : Status). EndsBy checked (r.taken ++ left.0) r.taken r.written s s' k k' x (cause_of x)) short (r.ends left.0 left.1)).0;

@@ -31,7 +31,7 @@ prints_one m next n l x text read leads =
     subst (λ t. Prints m n (l ∷ []) next t) (append-nil text) (prints_cons m next next n l [] x text [] read leads (refl, refl))
 
 -- after a command a script has begun
-leads_begun : (m : Script) (c : Command) (next : Script) (text : List ℕ) → Leads m c next text → is_fresh next ≡ false
+pub leads_begun : (m : Script) (c : Command) (next : Script) (text : List ℕ) → Leads m c next text → is_fresh next ≡ false
 leads_begun Fresh (Memory words) next text p = ap is_fresh p.0
 leads_begun Fresh _ next text p = absurd p
 leads_begun (Begun run) c next text p = ap is_fresh p.2

@@ -8,16 +8,12 @@ use Rattle.km_model.specs.Output.{is_fresh, limit}
 use Rattle.km_edge.specs.Streams.{SourceState, SinkState, Rose, Wrote}
 use Rattle.km_edge.proofs.Writing.{wrote_none, wrote_more}
 use Rattle.km_reader.specs.declared.reader.Next.TheVariants as next
-use Rattle.km_reader.specs.Causes.{AtMemory, EndsAsTold, EndsOver}
 use Rattle.km_reader.specs.Reading.{Input, Is, Step, line_in, rest_in, unread}
 use Rattle.km_reader.proofs.Calls.{Between, all_end, all_rest, between_few, between_line, between_start, limit_given, next_line, next_long, next_rest, room_line, room_rest, shrinks, whole_fault}
-use Rattle.km_reader.proofs.Caused.{ends_as_told, ends_over, has_cause}
-use Rattle.km_forms.specs.Checks.{cause_of}
 use Rattle.km_forms.specs.Lines.{Refuses}
 use Rattle.km_forms.proofs.Limits.{long_is_refused}
 use Rattle.km_machine.specs.Machines.{Simulation}
 use Rattle.km_engine.specs.Session.{Session, Place, StandsAt, HasRoomFor, start, first_place}
-use Rattle.km_engine.specs.Outcome.{scripts}
 use Rattle.km_engine.specs.Steps.{EndsAt, Ran, RanOn, RunsScript, StaysLed, TakesRoom}
 use Rattle.km_engine.proofs.Lines.{stays_led}
 use Rattle.km_engine.proofs.Rooms.{less_room}
@@ -165,26 +161,3 @@ pub running_beyond : (s0 s s' : SourceState) (k0 k : SinkState) (script : Sessio
 running_beyond s0 s s' k0 k script reader reader' r step is kept =
     ends_long s0 s' k0 k script.machine r.lines r.written r.place (standing s0 s s' k0 k script reader r kept)
     (limit_given s0 s s' reader reader' limit r.lines r.between step is)
-
--- the run as its contract says it
-pub run_ends : (s s' : SourceState) (k k' : SinkState) (ended : Status) (bytes : List ℕ) (machine : Option Simulation) → RunsScript s s' k k' machine ended → s.left ≡ Some bytes
-    → EndsOver scripts bytes s s' k k' ended
-run_ends s s' k k' ended bytes machine r told = ends_over scripts s s' k k' ended bytes r.run told
-
-short_of_memory : (ended : Status) → cause_of ended ≡ AtMemory → ended ≡ status.NoMemory
-short_of_memory status.NoMemory e = refl
-short_of_memory status.Ok e = absurd (cc)
-short_of_memory (status.NotACommand _ _) e = absurd (cc)
-short_of_memory status.ReadFault e = absurd (cc)
-short_of_memory status.WriteFault e = absurd (cc)
-short_of_memory (status.BadWords _) e = absurd (cc)
-short_of_memory status.TooLong e = absurd (cc)
-
--- where nothing fails, status and output are those of the bytes
-pub run_exact : (s s' : SourceState) (k k' : SinkState) (ended : Status) (bytes : List ℕ) → EndsOver scripts bytes s s' k k' ended
-    → ¬ Rose s.faults s'.faults → ¬ Rose k.faults k'.faults → ¬ (ended ≡ status.NoMemory) → EndsAsTold scripts bytes k k' ended
-run_exact s s' k k' ended bytes e r w m = ends_as_told scripts s s' k k' ended bytes e r w (λ short. m (short_of_memory ended short))
-
--- words of the form are not bad ones, whatever the source tells
-pub never_bad : (s s' : SourceState) (k k' : SinkState) (machine : Option Simulation) (ended : Status) (n : ℕ) → RunsScript s s' k k' machine ended → ended ≡ status.BadWords n → ⊥
-never_bad s s' k k' machine ended n r bad = has_cause scripts s s' k k' ended r.run (ap cause_of bad)

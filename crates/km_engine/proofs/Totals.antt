@@ -9,14 +9,14 @@ use Rattle.km_base.specs.declared.acts.Refusal.TheVariants.{NoScanRunning}
 use Rattle.km_laws.specs.Laws.{goes_on}
 use Rattle.km_laws.specs.Left.{left}
 use Rattle.km_laws.proofs.Laws.{loads_lower}
-use Rattle.km_laws.proofs.Since.{memory_answered}
+use Rattle.km_laws.proofs.Since.{IsAnswered, memory_answered}
 use Rattle.km_base.specs.declared.lines.Command.{Command}
 use Rattle.km_base.specs.declared.lines.Command.TheVariants.{Memory, Write, Finish, Tick, Step}
 use Rattle.km_base.specs.declared.lines.Line.{Line}
 use Rattle.km_base.specs.declared.lines.Line.TheVariants as line
 use Rattle.km_model.specs.Answers.{answer, step_answer}
 use Rattle.km_model.specs.Expansion.{steps, Finishes, ScansIfBegun, TicksOver, Makes, behind_line, due_by, run_at, is_idle, newest_is_done, world_after}
-use Rattle.km_model.specs.Follows.{Run, HasOwnWords, first_run, happens, past_of, told_answer, told_value}
+use Rattle.km_model.specs.Follows.{Run, first_run, happens, past_of, told_answer, told_value}
 use Rattle.km_model.specs.Grammar.{line_of}
 use Rattle.km_model.specs.History.{History}
 use Rattle.km_model.specs.Output.{Script, Fresh, Begun, LeadsLine, LineThen, Prints, IsOut, is_fresh, line_text, lines_of}
@@ -24,7 +24,7 @@ use Rattle.km_model.specs.Past.{Place, is_loaded, last_load, running_scan, scans
 use Rattle.km_model.specs.Scan.{next}
 use Rattle.km_model.specs.Text.{not_a_command_text}
 use Rattle.km_model.specs.Verdict.{new_blocks}
-use Rattle.km_model.proofs.FollowLaws.{happens_own, scans_keep}
+use Rattle.km_model.proofs.FollowLaws.{scans_keep}
 use Rattle.km_core.proofs.Cores.{one_more}
 use Rattle.km_engine.specs.Steps.{IsFitLine}
 use Rattle.km_engine.proofs.Fit.{read_is_fit}
@@ -81,11 +81,18 @@ due_within target (Some m) due e = by_test (nat_le m target) refl e
     by_test true t e = let same : m ≡ due = cc in let within : m ≤ target = grind (arith, nat_tests) in (e, omega (arith, same, within))
     by_test false t e = absurd (let z : ⊥ = cc in z)
 
+-- each event of a run has its answer, whatever its loads brought
+abbrev pub HasAnswers : Run → Type 0
+HasAnswers run = IsAnswered run.words run.history
+
+happens_answered : (run : Run) (a : _) → HasAnswers run → HasAnswers (happens run a)
+happens_answered run a own = ((told_value run a, refl), own)
+
 -- time moves to its target: each automatic scan is a second behind the last at least
 abbrev Reaches : ℕ → Run → Type 0
 Reaches target run = (run' : Run) × ((n : ℕ) × TicksOver target n run run')
 
-ticks : (target fuel : ℕ) (run : Run) → HasOwnWords run → ((m : ℕ) → (world_after run.history).due ≡ Some m → target < m + 1000 * fuel) → Reaches target run
+ticks : (target fuel : ℕ) (run : Run) → HasAnswers run → ((m : ℕ) → (world_after run.history).due ≡ Some m → target < m + 1000 * fuel) → Reaches target run
 ticks target zero run own far =
     elim (due_by target (world_after run.history)) as (λ o. due_by target (world_after run.history) ≡ o → Reaches target run) [
       | None ↦ λ e. (run_at run target, (0, (ap is_none e, refl)))
@@ -104,15 +111,15 @@ ticks target (suc fuel) run own far =
           let moved = run_at run m in
           let begun = happens moved act.AutoBegin in
           let scan = scans_end begun in
-          let pace = scan_paced run scan.0 m (memory_answered run.words run.history own.follows) due.0 scan.1 in
+          let pace = scan_paced run scan.0 m own due.0 scan.1 in
           let now = pace.now in
-          let own_behind = scans_keep HasOwnWords happens_own begun scan.0 scan.1 (happens_own moved act.AutoBegin (happens_own run _ own)) in
+          let own_behind = scans_keep HasAnswers happens_answered begun scan.0 scan.1 (happens_answered moved act.AutoBegin (happens_answered run _ own)) in
           let rest = ticks target fuel scan.0 own_behind (λ k is. let later = pace.next k is in omega (arith, beyond, now, later)) in
           (rest.0, (suc rest.1.0, (m, e, scan.0, scan.1, rest.1.1)))
     ] refl
 
 -- a line leads to a run
-makes : (run : Run) (c : Command) → HasOwnWords run → (run' : Run) × Makes run c run'
+pub makes : (run : Run) (c : Command) → HasAnswers run → (run' : Run) × Makes run c run'
 makes run (Write (Some file.Scan)) own = scans_end (happens run (act.File file.Scan))
 makes run (Step n) own = (steps n run, refl)
 makes run Finish own = finishes (left (past_of run.history)) run (omega arith)
@@ -125,7 +132,7 @@ leads m line.Blank fit sound = (m, [], (refl, refl))
 leads Fresh (line.Command (Memory words)) fit sound = (Begun (first_run words), [], (refl, refl))
 leads Fresh (line.Command _) fit sound = absurd fit
 leads (Begun run) (line.Command c) fit sound =
-    let made = makes run c sound.1 in (Begun made.0, line_text run c made.0, (made.0, made.1, refl, refl))
+    let made = makes run c (memory_answered run.words run.history sound.1.follows) in (Begun made.0, line_text run c made.0, (made.0, made.1, refl, refl))
 
 prints : (ls : List (List ℕ)) (m : Script) (n : ℕ) → IsSound m → (end : Script) × (out : List ℕ) × Prints m n ls end out
 prints [] m n sound = (m, [], (refl, refl))

@@ -2,7 +2,6 @@
 use Rattle.std.specs.Prelude.{◌≡◌, ◌≢◌, ℕ, List, [], ◌⊎◌, Some, Result, Ok, Err}
 use Rattle.km_base.specs.declared.status.Status.{Status}
 use Rattle.km_base.specs.declared.status.Status.TheVariants as status
-use Rattle.km_model.specs.Output.{status_of}
 use Rattle.km_edge.specs.Streams.{SourceState, SinkState, Rose}
 use Rattle.km_forms.specs.declared.words.Form.{Form}
 use Rattle.km_forms.specs.declared.words.Form.TheVariants as form
@@ -25,7 +24,7 @@ pub record IsAnswered (l : Language Status) (s s' : SourceState) (k k' : SinkSta
   pub exact : (bytes : List ℕ) → s.left ≡ Some bytes → ¬ Rose s.faults s'.faults → ¬ Rose k.faults k'.faults → ended ≢ status.NoMemory
       → EndsAsTold l bytes k k' ended
   -- where no line is refused, either, nothing is left
-  pub complete : (bytes : List ℕ) → s.left ≡ Some bytes → ¬ Rose s.faults s'.faults → ¬ Rose k.faults k'.faults → status_of bytes ≡ status.Ok
+  pub complete : (bytes : List ℕ) → s.left ≡ Some bytes → ¬ Rose s.faults s'.faults → ¬ Rose k.faults k'.faults → l.status_of bytes ≡ status.Ok
       → (ended ≡ status.NoMemory) ⊎ ((ended ≡ status.Ok) × (s'.left ≡ Some []) × EndsAsTold l bytes k k' ended)
 
 -- a script is run

@@ -11,3 +11,4 @@ mod script;
 pub use km_base::Status;
 pub use km_machine::Machine;
 pub use program::run;
+pub use script::run_command;

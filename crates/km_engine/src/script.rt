@@ -138,7 +138,7 @@ fn run<K: Sink>(
 ///
 /// It stays a call: what commands need of the stack is large and set to 0 first, and a blank line has no need of it.
 #[inline(never)]
-fn run_command<K: Sink>(
+pub fn run_command<K: Sink>(
     machine: &mut Option<Machine>,
     alloc: Global,
     command: &Command,

@@ -1,19 +1,18 @@
 -- A whole check, from the count of a script.
-use Rattle.std.proofs.Common.{◌≡◌, ℕ, List, [], ◌++◌, take, drop, Some, Ok, Err, ap, sym, subst, ◌∙◌, refl}
+use Rattle.std.proofs.Common.{◌≡◌, ℕ, List, [], ◌++◌, take, drop, Ok, Err, ap, sym, subst, ◌∙◌, refl}
 use Rattle.std.proofs.lemmas.List.{take-append-drop}
 use Rattle.km_base.specs.declared.status.Status.{Status}
 use Rattle.km_base.specs.declared.status.Status.TheVariants as status
 use Rattle.km_model.specs.Output.{status_of}
 use Rattle.km_model.specs.Text.{commands_text, not_a_command_text}
-use Rattle.km_edge.specs.Streams.{SourceState, SinkState, Rose, StoppedAt}
+use Rattle.km_edge.specs.Streams.{SourceState, SinkState}
 use Rattle.km_edge.proofs.Writing.{wrote_none, wrote_out}
-use Rattle.km_reader.specs.Causes.{AtMemory, EndsAsTold, EndsBy, EndsFrom, EndsOver, EndsWithin}
+use Rattle.km_reader.specs.Causes.{EndsFrom, EndsWithin}
 use Rattle.km_reader.specs.Lines.{IsPrefix}
-use Rattle.km_reader.proofs.Caused.{ends_as_told, ends_over, has_cause}
 use Rattle.km_reader.proofs.Sources.{some_left}
 use Rattle.km_forms.specs.Lines.{Refuses}
 use Rattle.km_forms.specs.Counts.{Counts, CountsScript, commands_of}
-use Rattle.km_forms.specs.Checks.{WritesCount, WritesEnd, cause_of, check_text, check_text_by, checked}
+use Rattle.km_forms.specs.Checks.{WritesCount, WritesEnd, check_text, check_text_by, checked}
 
 -- what was written is at the front of a text
 front_of : (n : ℕ) (text : List ℕ) → IsPrefix (take n text) text
@@ -123,21 +122,3 @@ end_written s s' k k' status.Ok result counts w = absurd (never s s' status.Ok c
 end_written s s' k k' status.WriteFault result counts w = absurd (never s s' status.WriteFault counts (λ bytes taken h. h))
 end_written s s' k k' status.NoMemory result counts w = absurd (never s s' status.NoMemory counts (λ bytes taken h. h))
 end_written s s' k k' (status.BadWords n) result counts w = absurd (never s s' (status.BadWords n) counts (λ bytes taken h. h))
-
--- words of the form are not bad ones, whatever the source tells
-pub check_never_bad : (s s' : SourceState) (k k' : SinkState) (ended : Status) (n : ℕ) → EndsFrom checked s s' k k' ended → ended ≡ status.BadWords n → ⊥
-check_never_bad s s' k k' ended n r bad = has_cause checked s s' k k' ended r (ap cause_of bad)
-
--- a check never needs memory
-check_needs_none : (s s' : SourceState) (k k' : SinkState) (bytes : List ℕ) (ended : Status) → EndsOver checked bytes s s' k k' ended → cause_of ended ≡ AtMemory → ⊥
-check_needs_none s s' k k' bytes ended e short =
-    (subst (λ c. EndsBy checked bytes e.taken e.written s s' k k' ended c) short e.ends).0
-
--- the check as a contract says it
-pub check_ends : (s s' : SourceState) (k k' : SinkState) (ended : Status) (bytes : List ℕ) → EndsFrom checked s s' k k' ended → s.left ≡ Some bytes → EndsOver checked bytes s s' k k' ended
-check_ends s s' k k' ended bytes r told = ends_over checked s s' k k' ended bytes r told
-
--- where nothing fails, status and output are those of the bytes
-pub check_exact : (s s' : SourceState) (k k' : SinkState) (ended : Status) (bytes : List ℕ) → EndsOver checked bytes s s' k k' ended
-    → ¬ Rose s.faults s'.faults → ¬ Rose k.faults k'.faults → EndsAsTold checked bytes k k' ended
-check_exact s s' k k' ended bytes e r w = ends_as_told checked s s' k k' ended bytes e r w (check_needs_none s s' k k' bytes ended e)

@@ -14,9 +14,10 @@ use Rattle.km_live_map.specs.Books.{Book, IsBook, IsCoreFor}
 use Rattle.km_live_map.specs.Views.{Knows}
 use Rattle.km_live_workers.specs.declared.seats.Chief.{Chief}
 use Rattle.km_live_workers.specs.declared.workers.Job.{Job as Task}
+use Rattle.km_live_workers.specs.Jobs.{job_of}
 use Rattle.km_live.specs.Crews.{HavePlayed, waiting}
 use Rattle.km_live.specs.Left.{AllTakenIn, HaveLeft, Left, ends_of, taken_in}
-use Rattle.km_live.specs.Made.{HasMade, MayRun, job_of}
+use Rattle.km_live.specs.Made.{HasMade, MayRun}
 use Rattle.km_live.proofs.Right.{right_after}
 use Rattle.km_live.proofs.Leaving.{as_many, each_weaker, is_round}
 

@@ -13,12 +13,13 @@ use Rattle.km_live_map.specs.Views.{TokenOf}
 use Rattle.km_workers.specs.Workers.{Acting}
 use Rattle.km_live_workers.specs.declared.workers.Job.{Job as Task}
 use Rattle.km_live_workers.specs.AtBooks.{limit_of}
+use Rattle.km_live_workers.specs.Jobs.{job_of}
 use Rattle.km_live_workers.specs.Runs.{HasRun, HasScanned, IsReady, Working}
 use Rattle.km_live_workers.specs.Seats.{newly_on}
 use Rattle.km_live_workers.specs.declared.seats.Chief.{Chief}
 use Rattle.km_live.specs.Crews.{About, AreSitting, AreWaiting, IsFor, Sits, WereTakenIn, hired, hired_for, left_job, left_of, new_token}
 use Rattle.km_live.specs.Left.{HasLeft, HaveLeft, IsScanned, ends_of}
-use Rattle.km_live.specs.Made.{job_of, with_ends}
+use Rattle.km_live.specs.Made.{with_ends}
 
 -- what told steps tell, where none were made before
 own_steps : (own steps : List WordStep) → Some own ≡ Some ([] ++ steps) → own ≡ steps

@@ -15,9 +15,9 @@ use Rattle.km_live_workers.specs.declared.seats.Chief.{Chief}
 use Rattle.km_live_workers.specs.declared.workers.Job.{Job as Task}
 use Rattle.km_live_workers.specs.Runs.{HasRun, HasScanned, Working}
 use Rattle.km_live_workers.specs.Seats.{IsChief, newly_at, newly_on}
+use Rattle.km_live_workers.specs.Jobs.{job_of}
 use Rattle.km_live.specs.Crews.{About, AreWaiting, HavePlayed, Sits, WereTakenIn, hired, hired_for, left_job, left_of, new_token}
 use Rattle.km_live.specs.Left.{Left, taken_in}
-use Rattle.km_live.specs.Made.{job_of}
 use Rattle.km_live.proofs.Courses.{each_append}
 use Rattle.km_live.proofs.Hired.{Dismissing, Hiring, has_scanned, have_left, hired_more, jobs_left, left_out}
 use Rattle.km_live.proofs.Leaving.{each_weaker}

@@ -13,10 +13,11 @@ use Rattle.km_workers.specs.Workers.{standing}
 use Rattle.km_live_workers.specs.declared.seats.Chief.{Chief}
 use Rattle.km_live_workers.specs.declared.workers.Job.{Job as Task}
 use Rattle.km_live_workers.specs.AtBooks.{IsBegunAs, limit_of, words_of}
+use Rattle.km_live_workers.specs.Jobs.{job_of}
 use Rattle.km_live_workers.specs.Runs.{Working}
 use Rattle.km_live_workers.specs.Seats.{IsSeated, newly_on}
 use Rattle.km_live.specs.Left.{HaveLeft, IsScanned, Left, ends_of, is_cut_short, kept_entries, kept_steps, taken_in}
-use Rattle.km_live.specs.Made.{job_of, with_ends}
+use Rattle.km_live.specs.Made.{with_ends}
 
 -- the first member, which has done nothing: the number that the next new one gets, and what it keeps of others
 abbrev pub waiting : {A : Type 0} → ℕ → List (ℕ × List A) → Member A

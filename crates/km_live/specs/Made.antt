@@ -17,10 +17,7 @@ use Rattle.km_round_laws.specs.RoundLaws.{AreForgottenIn, AreListed, unstored}
 use Rattle.km_live_map.specs.Books.{Book, IsCoreFor}
 use Rattle.km_live_workers.specs.declared.workers.Job.{Job as Task}
 use Rattle.km_live_workers.specs.AtBooks.{IsOpening}
-
--- a job, as the definitions see it
-abbrev pub job_of : Task → Job
-job_of t = record { task = t.task; registers = t.regs; lines = t.lines.items }
+use Rattle.km_live_workers.specs.Jobs.{job_of}
 
 -- a round may be run on this book and these words
 pub record MayRun (book : Book) (memory : List ℕ) (jobs : List Task) (scans gap : ℕ) : Type 0 where

@@ -3,8 +3,8 @@
 ghost use Rattle.std.specs.Prelude.{◌≡◌, ◌||◌, not, ℕ, ◌+◌, ◌*◌, ◌≤◌, ◌<◌, ◌^◌, ◌++◌, [], length, map, vec_len, vec_capacity, IfOk};
 ghost use Rattle.std.specs.List.{list_any};
 ghost use Rattle.km_live_workers.specs.AtBooks.{limit_of, moment_of};
+ghost use Rattle.km_live_workers.specs.Jobs.{job_of};
 ghost use Rattle.km_live.specs.Crews.{AreSitting, AreWaiting, HavePlayed, IsFor, WereTakenIn, hired, left_job};
-ghost use Rattle.km_live.specs.Made.{job_of};
 
 use km_base::NoMemory;
 use km_live_workers::{Chief, Gate, Job, Scanner, Shared, Worker, together};

@@ -48,6 +48,21 @@ impl Machine {
         })
     }
 
+    /// A machine of a core and words.
+    pub fn of_parts(core: Core<TreeMap>, words: Plain) -> Machine
+        ensures { result ≡ record { core = core; memory = words } }
+    {
+        Machine { core, words }
+    }
+
+    /// Its core and its words.
+    pub fn into_parts(self) -> (Core<TreeMap>, Plain)
+        ensures { self ≡ record { core = result.0; memory = result.1 } }
+    {
+        let Machine { core, words } = self;
+        (core, words)
+    }
+
     /// The core.
     pub fn core(&self) -> &Core<TreeMap>
         ensures { result.now ≡ self.now.core }

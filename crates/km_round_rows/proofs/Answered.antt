@@ -1,45 +1,20 @@
 -- What workers make one after another follows.
-use Rattle.std.proofs.Common.{◌≡◌, ℕ, zero, suc, ◌^◌, Bool, true, false, not, nat_le, nat_lt, List, [], ◌∷◌, ◌++◌, length, Option, Some, None, if◌then◌else◌, refl, sym, ◌∙◌, ap, subst, ltb-true}
+use Rattle.std.proofs.Common.{◌≡◌, ℕ, zero, suc, ◌^◌, Bool, true, false, nat_le, nat_lt, List, [], ◌∷◌, ◌++◌, Option, Some, None, if◌then◌else◌, refl, sym, ◌∙◌, ap, subst, ltb-true}
 use Rattle.std.specs.List.{list_all}
 use Rattle.std.proofs.lemmas.Bool.{and_parts, and_from}
 use Rattle.km_base.specs.declared.acts.Act.{Act}
-use Rattle.km_base.specs.declared.acts.Act.TheVariants.{Load, Step, Halt}
+use Rattle.km_base.specs.declared.acts.Act.TheVariants.{Halt}
 use Rattle.km_base.specs.declared.acts.Answer.{Answer}
-use Rattle.km_base.specs.declared.acts.Answer.TheVariants.{Loaded, Ended, Refused}
-use Rattle.km_base.specs.declared.acts.Refusal.TheVariants.{BadAddress, NoScanRunning, NoTask}
 use Rattle.km_model.specs.History.{History, value_of}
-use Rattle.km_model.specs.Memory.{in_memory}
-use Rattle.km_model.specs.Past.{Past, Place, world, running_scan, scans}
-use Rattle.km_model.specs.Scan.{next}
-use Rattle.km_model.specs.Verdict.{new_blocks}
-use Rattle.km_model.specs.Answers.{answer, unless, has_task}
+use Rattle.km_model.specs.Answers.{answer}
 use Rattle.km_model.specs.Follows.{Follows, moment, past_of}
 use Rattle.km_live_model.specs.declared.jobs.JobLine.{JobLine}
 use Rattle.km_rounds.specs.declared.entry.Entry.{Entry}
 use Rattle.km_rounds.specs.Journals.{Journal, event_of, with_journal}
 use Rattle.km_live_model.specs.Courses.{Mutator, Stage, act_in, entry_of, stage_after}
+use Rattle.km_state.proofs.CodeLaws.{answer_again}
+use Rattle.km_schedules.proofs.Parts.{joined}
 use Rattle.km_round_rows.proofs.Schedules.{Now, answer_now, answer_to, after_act, after_entry, act_at, is_scanning, run_lines, run_scanner, scanner_entry, given_to, mutator_after, now_after}
-
-abbrev step_to : Past → ℕ → Option ℕ → Option Place → Answer
-step_to p u r o =
-    elim r as (λ _. Answer) [ None ↦ Refused NoScanRunning | Some _ ↦ elim o as (λ _. Answer) [ None ↦ Ended (scans p) (length (new_blocks p)) | Some x ↦ Loaded x.word u ] ]
-
-step_own : (p : Past) (v : ℕ) (r : Option ℕ) (o : Option Place) → step_to p v r o ≡ step_to p (value_of (step_to p v r o)) r o
-step_own p v None o = refl
-step_own p v (Some k) None = refl
-step_own p v (Some k) (Some x) = refl
-
--- an answer is that to its own value
-answer_own : (words : ℕ) (p : Past) (act : Act) (v : ℕ) → answer words p act v ≡ answer words p act (value_of (answer words p act v))
-unfolding answer
-answer_own words p (Load task reg a) v = go (not (has_task (world p) task)) (not (in_memory words a))
-  where
-    go : (c d : Bool) → unless c NoTask (unless d BadAddress (Loaded a v)) ≡ unless c NoTask (unless d BadAddress (Loaded a (value_of (unless c NoTask (unless d BadAddress (Loaded a v))))))
-    go true d = refl
-    go false true = refl
-    go false false = refl
-answer_own words p Step v = step_own p v (running_scan p) (next p)
-answer_own words p act v = refl
 
 -- whether each answer brings a value of 64 bits
 abbrev pub are_small : Journal → Bool
@@ -52,15 +27,11 @@ small_parts (x ∷ xs) ys e =
     let q = small_parts xs ys p.1 in
     (and_from (nat_lt (value_of x.answer) (2 ^ 64)) (are_small xs) p.0 q.0, q.1)
 
-pub joined : (h : History) (first rest : Journal) → with_journal h (first ++ rest) ≡ with_journal (with_journal h first) rest
-joined h [] rest = refl
-joined h (e ∷ first) rest = joined (event_of e ∷ h) first rest
-
 -- one more entry follows
 one_follows : (words : ℕ) (h : History) (n : Now) (by : ℕ) (what : Act) → n.past ≡ past_of h → Follows words h → nat_lt (value_of (answer_now words n what)) (2 ^ 64) ≡ true
     → Follows words (event_of (record { by = by; act = what; answer = answer_now words n what }) ∷ h)
 one_follows words h n by what same f small = (
-  subst (λ p. answer_now words n what ≡ answer words p what (value_of (answer_now words n what))) same (answer_own words n.past what _),
+  subst (λ p. answer_now words n what ≡ answer words p what (value_of (answer_now words n what))) same (sym (answer_again words n.past what _)),
   ltb-true (value_of (answer_now words n what)) (2 ^ 64) small,
   f,
 )

@@ -1,5 +1,5 @@
 -- A round whose workers run one after another, as a function: what a row needs to name its journal and its order.
-use Rattle.std.proofs.Common.{◌≡◌, ℕ, zero, suc, ◌+◌, ◌^◌, ◌==◌, Bool, true, false, ◌&&◌, ◌||◌, nat_le, nat_lt, List, [], ◌∷◌, ◌++◌, length, map, Option, Some, None, if◌then◌else◌, refl, sym, ◌∙◌, ap, subst, eqb-true, leb-true, ltb-true}
+use Rattle.std.proofs.Common.{◌≡◌, ℕ, zero, suc, ◌+◌, ◌^◌, ◌==◌, Bool, true, false, ◌&&◌, ◌||◌, nat_le, nat_lt, List, [], ◌∷◌, ◌++◌, length, Option, Some, None, if◌then◌else◌, refl, sym, ◌∙◌, ap, subst, eqb-true, leb-true, ltb-true}
 use Rattle.std.specs.List.{list_all}
 use Rattle.std.proofs.lemmas.Bool.{and_parts}
 use Rattle.km_base.specs.declared.acts.Act.{Act}
@@ -172,10 +172,6 @@ run_scanner words gap limit (suc fuel) n stage =
             scanner_entry what given ∷ run_scanner words gap limit fuel (after_entry n what given) (stage_after stage what given)
       ]
     ]
-
--- steps of one hand
-abbrev pub by_hand : ℕ → List WordStep → Order
-by_hand k steps = map (λ (s : WordStep). record { by = k; step = s }) steps
 
 -- whether two answers are the same, of those that a row has
 abbrev pub same_answer : Answer → Answer → Bool

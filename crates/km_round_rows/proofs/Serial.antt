@@ -1,9 +1,8 @@
 -- A round whose workers run one after another is a round.
-use Rattle.std.proofs.Common.{◌≡◌, ℕ, ◌+◌, ◌≤◌, ◌<◌, ◌==◌, Bool, true, false, ◌&&◌, ◌||◌, not, nat_le, List, [], ◌∷◌, ◌++◌, length, Option, Some, None, if◌then◌else◌, refl, sym, ◌∙◌, ap, subst, arith, eqb-true, eq-eqb, leb-true, append_assoc, append-nil}
+use Rattle.std.proofs.Common.{◌≡◌, ℕ, ◌+◌, ◌≤◌, ◌<◌, ◌==◌, Bool, true, false, ◌&&◌, ◌||◌, not, nat_le, List, [], ◌∷◌, ◌++◌, length, refl, sym, ◌∙◌, ap, subst, arith, eqb-true, leb-true, append_assoc, append-nil}
 use Rattle.std.specs.Prelude.{count_by}
 use Rattle.std.specs.List.{list_all, list_any}
-use Rattle.std.proofs.lemmas.Bool.{and_parts, false_from_ne_true}
-use Rattle.km_base.specs.declared.acts.Act.{Act}
+use Rattle.std.proofs.lemmas.Bool.{and_parts}
 use Rattle.km_base.specs.declared.acts.Answer.{Answer}
 use Rattle.km_base.specs.declared.acts.Answer.TheVariants.{Loaded}
 use Rattle.km_model.specs.History.{History}
@@ -17,8 +16,9 @@ use Rattle.km_rounds.specs.declared.entry.Entry.{Entry}
 use Rattle.km_rounds.specs.Journals.{Journal, with_journal, with_loaded, loads_in, entries_by}
 use Rattle.km_live_model.specs.Courses.{Mutator, Course, AtTick, act_in, entry_of, is_halt, is_scanner_course}
 use Rattle.km_live_model.specs.Rounds.{Job, IsRound, AreCourses, mutator_of}
-use Rattle.km_round_rows.proofs.Answered.{Reaches, are_small, joined, lines_reach, reaches_more, scanner_follows, small_parts}
-use Rattle.km_round_rows.proofs.Schedules.{Now, Ran, by_hand, run_lines, run_scanner, run_is_course, mutator_after, now_after, given_to, follows_all, all_follow, is_legal, legal, is_worker, workers}
+use Rattle.km_schedules.proofs.Parts.{AllBy, all_both, by_hand, courses_after, entries_all, entries_here, entries_none, entries_there, entry_by, joined, part_here, part_there, scanner_all, scanner_none}
+use Rattle.km_round_rows.proofs.Answered.{Reaches, are_small, lines_reach, reaches_more, scanner_follows, small_parts}
+use Rattle.km_round_rows.proofs.Schedules.{Now, Ran, run_lines, run_scanner, run_is_course, mutator_after, now_after, given_to, follows_all, all_follow, is_legal, legal, is_worker, workers}
 
 -- what mutators made, one after another
 pub record RanAll : Type 0 where
@@ -35,68 +35,11 @@ module _ (words limit : ℕ) where
       let rest = run_jobs (k + 1) ran.now jobs in
       record { order = by_hand k ran.steps ++ rest.order; journal = ran.entries ++ rest.journal; ends = ran.after ∷ rest.ends; now = rest.now }
 
-same_number : (k : ℕ) → (k == k) ≡ true
-same_number k = eq-eqb k k refl
-
-other_number : (k j : ℕ) → (k ≡ j → ⊥) → (k == j) ≡ false
-other_number k j apart = false_from_ne_true (k == j) (λ e. apart (eqb-true k j e))
-
--- the part of a hand whose steps come first, and of another
-part_here : (k : ℕ) (xs : List WordStep) (rest : Order) → steps_by (by_hand k xs ++ rest) k ≡ xs ++ steps_by rest k
-part_here k [] rest = refl
-part_here k (x ∷ xs) rest =
-    ap (λ q. if q then x ∷ steps_by (by_hand k xs ++ rest) k else steps_by (by_hand k xs ++ rest) k) (same_number k) ∙ ap (λ ys. x ∷ ys) (part_here k xs rest)
-
-part_there : (k j : ℕ) (xs : List WordStep) (rest : Order) → (k ≡ j → ⊥) → steps_by (by_hand j xs ++ rest) k ≡ steps_by rest k
-part_there k j [] rest apart = refl
-part_there k j (x ∷ xs) rest apart =
-    ap (λ q. if q then x ∷ steps_by (by_hand j xs ++ rest) k else steps_by (by_hand j xs ++ rest) k) (other_number k j apart) ∙ part_there k j xs rest apart
-
--- entries that are all of one number
-abbrev AllBy : ℕ → Journal → Type 0
-AllBy k [] = Unit {0}
-AllBy k (e ∷ journal) = (e.by ≡ k) × AllBy k journal
-
-entry_by : (k : ℕ) (o : Option Act) (answer : Option Answer) → AllBy k (entry_of k o answer)
-entry_by k None answer = tt
-entry_by k (Some what) None = tt
-entry_by k (Some what) (Some given) = (refl, tt)
-
-all_both : (k : ℕ) (xs ys : Journal) → AllBy k xs → AllBy k ys → AllBy k (xs ++ ys)
-all_both k [] ys f g = g
-all_both k (x ∷ xs) ys f g = (f.0, all_both k xs ys f.1 g)
-
 lines_by : (words k limit : ℕ) (n : Now) (m : Mutator) (lines : List JobLine) → AllBy k (run_lines words k limit n m lines).entries
 lines_by words k limit n m [] = tt
 lines_by words k limit n m (line ∷ lines) =
     all_both k (entry_of k (act_in m.registers line) (given_to words k limit n m line)) _ (entry_by k (act_in m.registers line) (given_to words k limit n m line))
     (lines_by words k limit (now_after words k limit n m line) (mutator_after words k limit n m line) lines)
-
-entries_here : (k : ℕ) (xs rest : Journal) → AllBy k xs → entries_by (xs ++ rest) k ≡ xs ++ entries_by rest k
-entries_here k [] rest f = refl
-entries_here k (x ∷ xs) rest f =
-    ap (λ q. if q then x ∷ entries_by (xs ++ rest) k else entries_by (xs ++ rest) k) (eq-eqb k x.by (sym f.0)) ∙ ap (λ ys. x ∷ ys) (entries_here k xs rest f.1)
-
-entries_there : (k j : ℕ) (xs rest : Journal) → (k ≡ j → ⊥) → AllBy j xs → entries_by (xs ++ rest) k ≡ entries_by rest k
-entries_there k j [] rest apart f = refl
-entries_there k j (x ∷ xs) rest apart f =
-    ap (λ q. if q then x ∷ entries_by (xs ++ rest) k else entries_by (xs ++ rest) k) (other_number k x.by (λ e. apart (e ∙ f.0))) ∙ entries_there k j xs rest apart f.1
-
--- the steps and entries of numbers from k on
-abbrev Above : ℕ → Order → Journal → Type 0
-Above k order journal = (j : ℕ) → j < k → (steps_by order j ≡ []) × (entries_by journal j ≡ [])
-
--- what comes first from another number changes no course
-courses_after : (words k j : ℕ) (jobs : List Job) (xs : List WordStep) (order : Order) (ys journal : Journal) (ends : List Mutator) → j < k → AllBy j ys
-    → AreCourses words k jobs order journal ends → AreCourses words k jobs (by_hand j xs ++ order) (ys ++ journal) ends
-courses_after words k j [] xs order ys journal [] lt f c = tt
-courses_after words k j [] xs order ys journal (m ∷ ms) lt f c = absurd c
-courses_after words k j (job ∷ jobs) xs order ys journal [] lt f c = absurd c
-courses_after words k j (job ∷ jobs) xs order ys journal (m ∷ ms) lt f c = (
-  subst (λ s. Course words k (mutator_of job) job.lines s (entries_by (ys ++ journal) k) m) (sym (part_there k j xs order (λ e. omega (arith, lt, e))))
-      (subst (λ s. Course words k (mutator_of job) job.lines (steps_by order k) s m) (sym (entries_there k j ys journal (λ e. omega (arith, lt, e)) f)) c.0),
-  courses_after words (k + 1) j jobs xs order ys journal ms (omega (arith, lt)) f c.1,
-)
 
 module _ (words limit : ℕ) where
   -- a part of a number below those of the mutators is that of what comes after
@@ -144,22 +87,6 @@ loads_after (x ∷ xs) ys e =
     unloaded : (answer : Answer) (steps : List WordStep) → not (is_loaded answer) ≡ true → with_loaded answer steps ≡ steps
     unloaded (Loaded a v) steps f = absurd (elim_false f)
     unloaded _ steps f = refl
-
-scanner_none : (j : ℕ) (xs : List WordStep) → (j ≡ 1 → ⊥) → steps_by (by_hand 1 xs) j ≡ []
-scanner_none j [] apart = refl
-scanner_none j (x ∷ xs) apart = ap (λ q. if q then x ∷ steps_by (by_hand 1 xs) j else steps_by (by_hand 1 xs) j) (other_number j 1 apart) ∙ scanner_none j xs apart
-
-scanner_all : (xs : List WordStep) → steps_by (by_hand 1 xs) 1 ≡ xs
-scanner_all [] = refl
-scanner_all (x ∷ xs) = ap (λ ys. x ∷ ys) (scanner_all xs)
-
-entries_none : (j : ℕ) (xs : Journal) → (j ≡ 1 → ⊥) → AllBy 1 xs → entries_by xs j ≡ []
-entries_none j [] apart f = refl
-entries_none j (x ∷ xs) apart f = ap (λ q. if q then x ∷ entries_by xs j else entries_by xs j) (other_number j x.by (λ e. apart (e ∙ f.0))) ∙ entries_none j xs apart f.1
-
-entries_all : (xs : Journal) → AllBy 1 xs → entries_by xs 1 ≡ xs
-entries_all [] f = refl
-entries_all (x ∷ xs) f = ap (λ q. if q then x ∷ entries_by xs 1 else entries_by xs 1) (eq-eqb 1 x.by (sym f.0)) ∙ ap (λ ys. x ∷ ys) (entries_all xs f.1)
 
 all_by_one : (xs : Journal) → list_all (λ (e : Entry). e.by == 1) xs ≡ true → AllBy 1 xs
 all_by_one [] e = tt

@@ -114,7 +114,11 @@ fn follow<W: Words>(words: &mut W, registers: &mut [u64; 4], line: &JobLine, ans
             clear_made(words, size, start_of(answer));
             set_start(registers, reg, start_of(answer));
         }
-        _ => {}
+        JobLine::Kfree(_)
+        | JobLine::NotLeak(_)
+        | JobLine::Ignore(_)
+        | JobLine::NoScan(_)
+        | JobLine::ScanArea { .. } => {}
     }
 }
 

@@ -2,8 +2,8 @@ use Rattle.std.proofs.Common.{◌+◌, ◌++◌, ◌∷◌, [], All, length, map
 use Rattle.std.specs.List.{AllZip}
 use Rattle.km_live_workers.specs.Runs.{HasRun, HasScanned, IsReady}
 use Rattle.km_live_workers.specs.Seats.{newly_on}
+use Rattle.km_live_workers.specs.Jobs.{job_of}
 use Rattle.km_live.specs.Crews.{AreWaiting, HavePlayed, IsFor, hired, left_job}
-use Rattle.km_live.specs.Made.{job_of}
 use Rattle.km_live.proofs.Hired.{all_ready, all_sit, as_many_ran}
 use Rattle.km_live.proofs.Playing.{have_played, taken_as}
 use Rattle.km_live.proofs.Waiting.{after_seat, after_unseat, seen_more, token_of_seat}

@@ -1,0 +1,4 @@
+pub mod Ticks
+pub mod PutBack
+pub mod Printed
+pub mod Running

@@ -1,0 +1,4 @@
+pub mod Registers
+pub mod Shown
+pub mod Made
+pub mod Reading
