@@ -1,7 +1,7 @@
 #!/usr/bin/env bash
-# Runs each examples/NAME.km by kmemleak and each examples/NAME.journal by kmcheck, as they were built, and compares the
-# report with examples/NAME.report and the exit status with the number in examples/NAME.status, or with 0 where there is
-# no such file.
+# Runs each examples/NAME.km by kmemleak, each examples/NAME.live by kmlive and each examples/NAME.journal by kmcheck, as
+# they were built, and compares the report with examples/NAME.report and the exit status with the number in
+# examples/NAME.status, or with 0 where there is no such file.
 set -eu
 cd "$(dirname "$0")/.."
 work=$(mktemp -d)
@@ -39,9 +39,13 @@ compare() {
 }
 
 build kmemleak
+build kmlive
 build kmcheck
 for script in examples/*.km; do
   compare kmemleak "$script"
+done
+for script in examples/*.live; do
+  compare kmlive "$script"
 done
 for journal in examples/*.journal; do
   compare kmcheck "$journal"

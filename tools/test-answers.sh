@@ -1,10 +1,11 @@
 #!/usr/bin/env bash
 # Shows that whoever types a script, or feeds it slowly, sees the answer to a line before the next one is read, and that
-# all answers together are those of the same script in a file. Each wait has an end.
-# usage: [PROGRAM=FILE] tools/test-answers.sh
+# all answers together are those of the same script in a file; the same of a live script. Each wait has an end.
+# usage: [PROGRAM=FILE] [LIVE=FILE] tools/test-answers.sh
 set -u
 cd "$(dirname "$0")/.." || exit 1
 program=${PROGRAM:-crates/kmemleak/out/kmemleak}
+live=${LIVE:-crates/kmlive/out/kmlive}
 patience=20
 room=$(mktemp -d)
 trap 'rm -rf "$room"' EXIT
@@ -21,10 +22,10 @@ row() {
   fi
 }
 
-# Feeds a script through a pipe, and waits for the answer to each line but the first, which has none.
+# Feeds a script to a program through a pipe, and waits for the answer to each line but the first, which has none.
 feed_slowly() {
-  local number answer
-  coproc fed { exec "$program"; }
+  local reader=$1 number answer
+  coproc fed { exec "$reader"; }
   local process=$fed_PID output=${fed[0]} input=${fed[1]}
   printf 'memory 512\n' >&"$input"
   for number in 1 2 3; do
@@ -45,7 +46,8 @@ feed_slowly() {
 printf 'memory 512\nprint 1\nprint 2\nprint 3\nprint 4\n' >"$room/script"
 whole=$("$program" <"$room/script"; echo "status $?")
 row 'a script in a file' "$(printf '0x%016x\n' 1 2 3 4; echo 'status 0')" "$whole"
-row 'the same by a slow pipe' "$whole" "$(feed_slowly)"
+row 'the same by a slow pipe' "$whole" "$(feed_slowly "$program")"
+row 'a live script by a slow pipe' "$whole" "$(feed_slowly "$live")"
 
 # A line that ends the script, and a fault of the writer that a flush before a read meets first.
 row 'a line that is no command' "$(printf '0x%016x\n' 1; echo 'not a command: line 3, column 1'; echo 'status 1')" \

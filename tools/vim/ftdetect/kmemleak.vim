@@ -1,2 +1,2 @@
-" Scripts of the leak detector end in .km.
-autocmd BufRead,BufNewFile *.km setfiletype kmemleak
+" Scripts of the leak detector end in .km, live scripts in .live.
+autocmd BufRead,BufNewFile *.km,*.live setfiletype kmemleak

@@ -1,4 +1,4 @@
-" Highlighting for scripts of the leak detector.
+" Highlighting for scripts and live scripts of the leak detector.
 if exists('b:current_syntax')
   finish
 endif
@@ -20,6 +20,10 @@ syntax keyword kmWordWord set load store erase print contained
 syntax keyword kmHostWord kmalloc kzalloc kfree pages freepages vmalloc vfree bootmem free_part contained
 syntax keyword kmNoteWord not_leak ignore no_scan scan_area transient_leak contained
 syntax keyword kmTimeWord tick begin step finish read write contained
+if expand('%:e') ==# 'live'
+  syntax match kmThread /^\s*\(thread\|end\|round\)\>.*$/ contains=kmThreadWord,kmName,kmNumber
+  syntax keyword kmThreadWord thread end round contained
+endif
 syntax match kmComment /^\s*#.*$/
 highlight default link kmComment Comment
 highlight default link kmMemoryWord Type
@@ -27,6 +31,7 @@ highlight default link kmWordWord Statement
 highlight default link kmHostWord Function
 highlight default link kmNoteWord PreProc
 highlight default link kmTimeWord Keyword
+highlight default link kmThreadWord Structure
 highlight default link kmFileWord Constant
 highlight default link kmRegister Identifier
 highlight default link kmNumber Number

@@ -1,0 +1,4 @@
+pub mod Session
+pub mod Outcome
+pub mod Steps
+pub mod Program
