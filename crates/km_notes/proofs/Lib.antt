@@ -1,0 +1,4 @@
+mod Pieces
+mod Walks
+pub mod Noting
+mod Rounds
