@@ -23,7 +23,7 @@ use Rattle.km_state.proofs.ValueLaws.{call_law}
 use Rattle.km_reach.specs.Reached.{IsReached}
 use Rattle.km_reach.proofs.Reached.{states_are_reached}
 use Rattle.km_words.specs.Told.{Told}
-use Rattle.km_core.specs.Cores.{IsCore, Seen, Stands}
+use Rattle.km_core.specs.Cores.{IsAnswered, IsCore, Seen, Stands}
 use Rattle.km_core.specs.Parts.{Answers, IsReady, IsWhole, Parts, StandsAs, Touches}
 
 -- a state for which a core stands is one that a history leads to
@@ -105,6 +105,20 @@ pub left_falls : (c : Seen) (q : Parts) (act : Act) (given : Answer) (h : Histor
 left_falls c q act given h s w a r loaded is =
     let step = subst (λ x. given ≡ answer c.parts.words (past_of h) x (value_of given)) is (history_answer c q act given h s w a r) in
     subst (λ x. left (moment (past_of h) x given ∷ past_of h) + 1 ≤ left (past_of h)) (sym is) (step_lowers c.parts.words h given loaded step)
+
+-- a core that has answered an act
+pub core_answered : (c : Seen) (q : Parts) (act : Act) (given : Answer) (t u : Told) → IsWhole c.parts → Answers c.parts q act given → Touches act given t u
+    → IsAnswered c (record { events = c.events + 1; parts = q }) act given t u
+core_answered c q act given t u w a touches = record {
+  answer = λ h s r. answers_now c q act given h s w a r;
+  stands = λ h s r. stands_next c q act given t u h s w a touches r;
+  history = λ h s r. history_answer c q act given h s w a r;
+  left = λ h s r loaded is. left_falls c q act given h s w a r loaded is;
+  touches = touches;
+  words = a.words;
+  events = refl;
+  now = a.now;
+}
 
 -- a core that was booted stands for no events
 pub core_booted : (words : ℕ) (p : Parts) → StandsAs p (opened words) → IsWhole p → IsCore (record { events = 0; parts = p })

@@ -1,8 +1,9 @@
 //! The core: a kernel, and how many events it answered.
 
-ghost use Rattle.std.specs.Prelude.{◌≡◌, ℕ, ◌+◌, ◌<◌, ◌≤◌, ◌^◌, ◌∷◌, [], true, IfOk, IfSome, Some};
+ghost use Rattle.std.specs.Prelude.{◌≡◌, ℕ, ◌+◌, ◌<◌, ◌≤◌, ◌^◌, ◌∷◌, [], true, IfOk, IfSome, None, Some};
 ghost use Rattle.std.specs.Prelude.{option_map};
 ghost use Rattle.km_base.specs.declared.acts.Act.TheVariants.{Step, Tick};
+ghost use Rattle.km_base.specs.declared.acts.Answer.TheVariants.{Loaded};
 ghost use Rattle.km_model.specs.Headline.{IsMemorySize};
 ghost use Rattle.km_model.specs.History.{History, ticks_of, value_of};
 ghost use Rattle.km_model.specs.Past.{is_loaded, is_refused};
@@ -14,7 +15,7 @@ ghost use Rattle.km_state.specs.State.{State, opened, running_of};
 ghost use Rattle.km_state.specs.StateAnswers.{state_answer};
 ghost use Rattle.km_state.specs.StateAfter.{state_after};
 ghost use Rattle.km_vmalloc.specs.Areas.{area_at};
-ghost use Rattle.km_core.specs.Cores.{Stands};
+ghost use Rattle.km_core.specs.Cores.{IsAnswered, Stands};
 ghost use Rattle.km_core.specs.Parts.{Touches};
 
 use crate::kernel::Kernel;
@@ -83,6 +84,21 @@ impl<M: ObjectMap> Core<M> {
         let answer = self.kernel.act(words, act);
         self.events += 1;
         answer
+    }
+
+    /// Makes a step that is a load and needs no move to it, and tells its word and its value. Where the next step isn't
+    /// such, nothing changes, and `apply` makes it. It is for loops that make many steps.
+    #[inline(always)]
+    pub fn load_due<W: Words>(&mut self, words: &mut W) -> Option<(Addr, u64)>
+        requires size { (W.told words.old).size ≡ self.old.parts.words }
+        requires few { self.old.events < 2 ^ 62 }
+        ensures made { IfSome result (λ r. IsAnswered self.old self.new Step (Loaded r.0.0 r.1) (W.told words.old) (W.told words.new)) }
+        ensures same { result ≡ None → self.new ≡ self.old }
+        ensures same_words { result ≡ None → W.told words.new ≡ W.told words.old }
+    {
+        let load = self.kernel.load_due(words)?;
+        self.events += 1;
+        Some(load)
     }
 
     /// How many words of memory there are.

@@ -2,7 +2,7 @@
 
 ghost use Rattle.std.specs.Prelude.{◌≡◌, ℕ, ◌+◌, ◌<◌, ◌≤◌, ◌^◌, ◌%◌, true, [], Some, None, option_map, IfOk, IfSome};
 ghost use Rattle.km_base.specs.declared.acts.Act.TheVariants as acts;
-ghost use Rattle.km_base.specs.declared.acts.Answer.TheVariants.{Refused};
+ghost use Rattle.km_base.specs.declared.acts.Answer.TheVariants.{Loaded, Refused};
 ghost use Rattle.km_model.specs.Answers.{is_uneven as is_uneven_size, part_answer};
 ghost use Rattle.km_model.specs.Blocks.{Block, block_with};
 ghost use Rattle.km_model.specs.Headline.{IsMemorySize};
@@ -451,6 +451,21 @@ impl<M: ObjectMap> Kernel<M> {
         }
         self.objects.begin(self.settings.now, self.settings.stacks);
         Ok(Answer::Done)
+    }
+
+    /// Makes a step of a running scan that is a load and needs no move to it, and tells its word and its value. Else
+    /// nothing changes.
+    #[inline(always)]
+    pub fn load_due<W: Words>(&mut self, words: &mut W) -> Option<(Addr, u64)>
+        requires ready { IsReady self.old }
+        requires size { (W.told words.old).size ≡ self.old.words }
+        ensures answers { IfSome result (λ r. Answers self.old self.new (acts.Step) (Loaded r.0.0 r.1)) }
+        ensures words { IfSome result (λ r. Touches (acts.Step) (Loaded r.0.0 r.1) (W.told words.old) (W.told words.new)) }
+        ensures same { result ≡ None → self.new ≡ self.old }
+        ensures same_words { result ≡ None → W.told words.new ≡ W.told words.old }
+    {
+        let load = self.objects.load_due(self.hosts.tasks(), words)?;
+        Some(load)
     }
 
     /// A load of the running scan, or its end.

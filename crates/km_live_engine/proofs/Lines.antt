@@ -20,7 +20,7 @@ use Rattle.km_live_map.specs.Books.{IsCoreFor}
 use Rattle.km_live_model.specs.declared.lines.LiveLine.{LiveLine}
 use Rattle.km_live_model.specs.declared.lines.LiveLine.TheVariants as live
 use Rattle.km_live_model.specs.Rounds.{jobs_at}
-use Rattle.km_live_model.specs.LiveGrammar.{LiveReading}
+use Rattle.km_live_model.specs.LiveGrammar.{LiveReading, live_line_of}
 use Rattle.km_live_model.specs.Threads.{Thread, Threads, line_at, no_threads, threads_after}
 use Rattle.km_live_model.specs.Lives.{LeadsLive, LiveScript}
 use Rattle.km_live_workers.specs.declared.workers.Job.{Job as Task}
@@ -32,7 +32,7 @@ use Rattle.km_engine.specs.Steps.{EndsRun as EndsCommand, Runs as RunsCommand, I
 use Rattle.km_engine.proofs.Lines.{fresh_as}
 use Rattle.km_live_engine.specs.Session.{HasCome, LivePlace, LiveSession, StandsAt}
 use Rattle.km_live_engine.specs.Outcome.{asks_for_memory}
-use Rattle.km_live_engine.specs.Steps.{EndsAt, EndsInput, EndsRound, EndsRun, IsFewInRound, IsQuiet, RanRound, Runs, RunsLine, RunsRoundLine, RunsThreads, StaysLed, read_at}
+use Rattle.km_live_engine.specs.Steps.{EndsAt, EndsInput, EndsRound, EndsRun, IsFewInRound, IsQuiet, RanOn, RanRound, Runs, RunsLine, RunsRoundLine, RunsThreads, StaysLed, read_at}
 use Rattle.km_live_engine.proofs.Rooms.{few_in_round}
 use Rattle.km_live_engine.proofs.Totals.{ByRound}
 
@@ -244,3 +244,17 @@ line_ends s s' between bytes l k k' ended read runs = λ p stands.
       subst (λ r. EndsAt p r k k' ended) (sym (here_at s p bytes (Ok l) stands read)) stop,
       stays_ended s' p l k k' ended stop,
     )
+
+-- an empty line is blank wherever it stands
+empty_is_blank : (p : LivePlace) → read_at p [] ≡ Ok live.Blank
+unfolding live_line_of
+empty_is_blank p = refl
+
+-- it runs where nothing is done and nothing is written
+pub empty_runs : (s : LiveSession) (p : LivePlace) (bytes : List ℕ) (k : SinkState) → HasCome s p.script → bytes ≡ []
+    → (l : LiveLine) × (read_at p bytes ≡ Ok l) × RanOn s p.script l k k
+empty_runs s p bytes k come empty = (
+  live.Blank,
+  ap (read_at p) empty ∙ empty_is_blank p,
+  record { next = p.script.script; text = []; leads = (refl, refl); come = come; wrote = wrote_none k },
+)

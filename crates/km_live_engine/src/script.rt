@@ -67,7 +67,35 @@ impl LiveScript {
     }
 
     /// Reads and runs one line, without its line feed. An `Err` is how the script ends.
+    #[inline]
     pub fn line<R: thread::Threads + Wait + Sync, K: Sink, G: Gate + Sync>(
+        &mut self,
+        rt: &R,
+        alloc: Global,
+        bytes: &[u8],
+        sink: &mut K,
+        gate: &G,
+    ) -> Result<(), Status>
+        requires stands { (p : LivePlace) × StandsAt self.old p }
+        requires numbered { self.old.number < 2 ^ 64 - 1 }
+        requires room { HasRoomFor self.old.machine (length bytes.now) }
+        ensures runs { RunsLine self.old self.new bytes.now (K.state sink.old) (K.state sink.new) result }
+        ensures room { IfOk result (λ _. TakesRoom self.old self.new (length bytes.now + 1) 0) }
+        ensures number { IfOk result (λ _. self.new.number ≡ self.old.number + 1) }
+    {
+        match bytes {
+            // Such a line is common, and nothing is to be read in it.
+            [] => {
+                self.number += 1;
+                Ok(())
+            }
+            _ => self.some_line(rt, alloc, bytes, sink, gate),
+        }
+    }
+
+    /// Reads and runs one line, whatever its bytes are.
+    #[inline(never)]
+    fn some_line<R: thread::Threads + Wait + Sync, K: Sink, G: Gate + Sync>(
         &mut self,
         rt: &R,
         alloc: Global,

@@ -73,6 +73,14 @@ stepping_none says first run most machine k k' written s = record {
   lowers = omega arith;
 }
 
+-- the same of equal machines, sinks and results
+pub stepping_as : (says : Saying) (first run : Run) (most made : ℕ) (machine other : Simulation) (k k' k'' : SinkState) (written result : Result (Unit {0}) Failed)
+    → other ≡ machine → k'' ≡ k' → result ≡ written → Stepping says first run most made machine k k' written → Stepping says first run most made other k k'' result
+stepping_as says first run most made machine other k k' k'' written result same_machine same_sink same_result s =
+    subst (λ x. Stepping says first run most made x k k'' result) (sym same_machine)
+    (subst (λ x. Stepping says first run most made machine k x result) (sym same_sink)
+    (subst (λ x. Stepping says first run most made machine k k' x) (sym same_result) s))
+
 -- where all have loaded
 pub all_loaded : (says : Saying) (first run : Run) (most : ℕ) (machine : Simulation) (k k' : SinkState) (written : Result (Unit {0}) Failed)
     → Stepping says first run most most machine k k' written → Stepped says first run most machine k k' written

@@ -1,7 +1,8 @@
 //! A core and its words.
 
-ghost use Rattle.std.specs.Prelude.{◌≡◌, ℕ, ◌+◌, ◌<◌, ◌≤◌, ◌^◌, length, IfOk};
-ghost use Rattle.km_base.specs.declared.acts.Act.TheVariants.{Tick};
+ghost use Rattle.std.specs.Prelude.{◌≡◌, ℕ, ◌+◌, ◌<◌, ◌≤◌, ◌^◌, length, IfOk, IfSome, None};
+ghost use Rattle.km_base.specs.declared.acts.Act.TheVariants.{Step, Tick};
+ghost use Rattle.km_base.specs.declared.acts.Answer.TheVariants.{Loaded};
 ghost use Rattle.km_edge.specs.Streams.{WritesAll};
 ghost use Rattle.km_model.specs.Headline.{IsMemorySize};
 ghost use Rattle.km_model.specs.History.{ticks_of};
@@ -10,7 +11,7 @@ ghost use Rattle.km_model.specs.Output.{listing_text};
 ghost use Rattle.km_machine.specs.Machines.{For, HasRoom, Spent};
 
 use crate::print;
-use km_base::{Act, Answer, NoMemory};
+use km_base::{Act, Addr, Answer, NoMemory};
 use km_core::Core;
 use km_edge::{Failed, Sink};
 use km_tree::TreeMap;
@@ -79,6 +80,20 @@ impl Machine {
         ensures spent { Spent self.old self.new 1 (ticks_of act.now) }
     {
         self.core.apply(&mut self.words, *act)
+    }
+
+    /// Makes a step that is a load and needs no move to it, and tells its word and its value. Where the next step isn't
+    /// such, nothing changes, and `event` makes it. It is for loops that make many steps.
+    #[inline(always)]
+    pub fn load_due(&mut self) -> Option<(Addr, u64)>
+        requires room { HasRoom self.old 1 0 }
+        ensures happens { IfSome result (λ r. (run : Run) → For self.old run → For self.new (happens run Step)) }
+        ensures answer { IfSome result (λ r. (run : Run) → For self.old run → Loaded r.0.0 r.1 ≡ told_answer run Step) }
+        ensures spent { Spent self.old self.new 1 0 }
+        ensures same { result ≡ None → self.new ≡ self.old }
+    {
+        let load = self.core.load_due(&mut self.words)?;
+        Some(load)
     }
 
     /// Writes what a read prints: an entry for each listed block, in order of registration.

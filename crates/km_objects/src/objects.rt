@@ -1,8 +1,9 @@
 //! The blocks and their scanner.
 
 ghost use Rattle.std.specs.List.{All};
-ghost use Rattle.std.specs.Prelude.{◌≡◌, ◌+◌, ◌%◌, ◌<◌, ◌≤◌, ◌^◌, ℕ, [], Some, None, true, false, is_some, option_map, IfOk, OnErr, map};
+ghost use Rattle.std.specs.Prelude.{◌≡◌, ◌+◌, ◌%◌, ◌<◌, ◌≤◌, ◌^◌, ℕ, [], Some, None, true, false, is_some, option_map, IfOk, IfSome, OnErr, map};
 ghost use Rattle.km_base.specs.declared.acts.Act.TheVariants.{Step};
+ghost use Rattle.km_base.specs.declared.acts.Answer.TheVariants.{Loaded};
 ghost use Rattle.km_free_part.specs.Parts.{front_of, rear_of};
 ghost use Rattle.km_model.specs.Answers.{part_answer};
 ghost use Rattle.km_model.specs.Blocks.{block_at, block_with, painted_grey, contains};
@@ -204,6 +205,26 @@ impl<M: ObjectMap> Objects<M> {
         ensures places { places self.new ≡ places self.old }
     {
         self.scanner.stop()
+    }
+
+    /// Makes a step of a running scan that is a load and needs no move to it, and tells its word and its value. Else
+    /// nothing changes.
+    #[inline(always)]
+    pub fn load_due<W: Words>(&mut self, tasks: &Tasks, words: &mut W) -> Option<(Addr, u64)>
+        requires agree { Agree self.old tasks.now }
+        requires words { (w : Sweep) (p : Place) → self.old.stand.sweep ≡ Some w → next_in (seen self.old.stand.stacks self.old.tracker tasks.now) (scanning_of self.old.tracker w) ≡ Some p → is_word (W.told words.old).size p.word ≡ true }
+        ensures answer { IfSome result (λ r. (s : State) → AreOf self.old s → s.tasks ≡ tasks.now.tasks → Loaded r.0.0 r.1 ≡ state_answer s Step r.1) }
+        ensures state { IfSome result (λ r. (s : State) → AreOf self.old s → s.tasks ≡ tasks.now.tasks → AreOf self.new (state_after s Step (Loaded r.0.0 r.1))) }
+        ensures agree { IfSome result (λ r. Agree self.new tasks.now) }
+        ensures places { IfSome result (λ r. places self.new ≡ places self.old) }
+        ensures range { IfSome result (λ r. r.1 < 2 ^ 64) }
+        ensures given { IfSome result (λ r. IsGiven (W.told words.old).given r.0.0 r.1) }
+        ensures memory { IfSome result (λ r. IsGiven (W.told words.old).memory r.0.0 r.1) }
+        ensures after { IfSome result (λ r. W.told words.new ≡ loaded_in (W.told words.old) r.0.0 r.1) }
+        ensures same { result ≡ None → self.new ≡ self.old }
+        ensures same_words { result ≡ None → W.told words.new ≡ W.told words.old }
+    {
+        step::load_due(&mut self.track, &mut self.scanner, tasks, words)
     }
 
     /// One step of a running scan: a load, or its end with the verdict.

@@ -17,14 +17,19 @@ use km_map::ObjectMap;
 use km_record::{RecId, Record};
 use km_track::Track;
 
-/// The first word of a block that is scanned, from the one with an index on.
+/// The first word of a block that is scanned, from the one at an address, with this index, on. Most often it is that one,
+/// and then nothing waits for what is computed of its index.
 #[inline(always)]
-fn word_from(block: &Record, from: u64) -> Option<Addr>
-    requires { IsSound block.now }
+fn word_from(block: &Record, from: u64, at: Addr) -> Option<Addr>
+    requires sound { IsSound block.now }
+    requires at { at.0 ≡ block.now.span.start.0 + 8 * from }
     ensures word { (id : ℕ) → option_map (λ a. a.0) result ≡ scanned_from (block.now.span.start.0 + 8 * from) (block_of id block.now) }
     ensures within { IfSome result (λ a. (id : ℕ) → IsWordOf (block_of id block.now) a.0) }
 {
     let i = block.next_word(from)?;
+    if i == from {
+        return Some(at);
+    }
     Some(Addr(block.span.start.0 + 8 * i))
 }
 
@@ -36,7 +41,7 @@ fn first_word<M: ObjectMap>(track: &Track<M>, id: RecId) -> Option<Addr>
     ensures rising { AreRising 0 track.now.live track.now.registered }
 {
     let record = track.record(id)?;
-    word_from(record, 0)
+    word_from(record, 0, record.span.start)
 }
 
 /// The scanned word behind another in the block that a grey pass holds.
@@ -48,7 +53,7 @@ pub fn word_behind<M: ObjectMap>(track: &Track<M>, pass: Pass, id: RecId, word: 
 {
     let record = track.record(id)?;
     let from = (word.0 - record.span.start.0) / 8 + 1;
-    let word = word_from(record, from)?;
+    let word = word_from(record, from, Addr(word.0 + 8))?;
     Some(At::Block { pass, id, word })
 }
 

@@ -14,6 +14,7 @@ use km_record::{Colour, RecId};
 use km_track::Track;
 
 /// The white block, other than the holder, to which the references to a grey block are passed on.
+#[inline(never)]
 fn passed_on<M: ObjectMap>(
     track: &Track<M>,
     holder: Option<u64>,

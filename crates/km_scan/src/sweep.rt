@@ -119,6 +119,16 @@ fn count<M: ObjectMap>(track: &mut Track<M>, at: At, value: u64, sum: Sum)
     }
 }
 
+/// No load is ready any more. Seldom was one, and a test costs less than a write.
+#[inline(always)]
+fn drop_ready(ready: &mut Option<At>)
+    ensures { ready.new ≡ None }
+{
+    if let Some(_) = *ready {
+        *ready = None;
+    }
+}
+
 impl Sweep {
     /// The load that needs no further move.
     #[inline(always)]
@@ -209,7 +219,7 @@ impl Sweep {
         let sum = self.sum_with(at, value);
         count(track, at, value, sum);
         self.cursor = Cursor::Last(at);
-        self.ready = None;
+        drop_ready(&mut self.ready);
         self.sum = sum;
     }
 

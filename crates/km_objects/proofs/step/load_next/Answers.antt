@@ -1,11 +1,11 @@
 use Rattle.std.proofs.Common.{◌≡◌, Some, sym, ap, ◌∙◌}
+use Rattle.km_base.specs.declared.acts.Answer.TheVariants.{Loaded}
 use Rattle.km_model.specs.Memory.{in_memory}
 use Rattle.km_model.specs.Past.{Place}
 use Rattle.km_state.specs.StateNext.{next_in}
 use Rattle.km_scan.specs.Places.{place_of}
 use Rattle.km_scan.specs.declared.sweep.Sweep.{Sweep}
 use Rattle.km_scan.specs.Stand.{Stand, load_told, scanning_of, seen}
-use Rattle.km_model.specs.History.{value_of}
 use Rattle.km_objects.proofs.Steps.{ends_step, has_ended, has_moved, moved_due, moved_loads}
 use Rattle.km_objects.proofs.step.load_next.Goals as goal
 
@@ -29,8 +29,8 @@ unreachable-requires g c =
     let z : ⊥ = cc in
     z
 
-pub load-requires : goal.load-requires
-load-requires g c =
+pub load-value-requires : goal.load-value-requires
+load-value-requires g c =
     let e = c.move_on.ensures in
     let w = c.requires.moved.0 in
     let running = c.requires.moved.1 in
@@ -52,7 +52,8 @@ returns-clause-step g c =
     let due = (c.in-Some-due.ensures {u = tt}).due in
     let is = moved_due _ _ _ _ _ m at due in
     let w : Sweep = record m.w { ready = Some m.at } in
+    let value = c.load-value.result in
     let now = ap (λ (x : Stand). x.sweep) m.ready in
-    moved_loads _ _ _ _ _ _ _ m (place_of at).word c.load.result (ap (λ (p : Place). p.word) (sym is)) c.load.ensures.answer (at, is, c.load.ensures.sweep w now)
-    (c.load.ensures.track w c.args.tasks.now now ∙ ap (λ (q : Place). load_told c.move_on.new.self.stacks w q (value_of c.load.result) c.move_on.new.track c.args.tasks.now) is)
-    (c.load.ensures.agree c.args.tasks.now e.fits due)
+    moved_loads _ _ _ _ _ _ _ m (place_of at).word (Loaded c.word.result.0 value) (ap (λ (p : Place). p.word) (sym is)) (ap (λ n. Loaded n value) c.word.ensures) (at, is, c.load-value.ensures.sweep w now)
+    (c.load-value.ensures.track w c.args.tasks.now now ∙ ap (λ (q : Place). load_told c.move_on.new.self.stacks w q value c.move_on.new.track c.args.tasks.now) is)
+    (c.load-value.ensures.agree c.args.tasks.now e.fits due)

@@ -1,10 +1,11 @@
-use Rattle.std.proofs.Common.{refl, sym, ◌∙◌}
+use Rattle.std.proofs.Common.{refl, sym, ap, ◌∙◌}
+use Rattle.km_base.specs.declared.acts.Answer.TheVariants.{Loaded}
 use Rattle.km_scan.specs.Places.{place_of}
 use Rattle.km_objects.proofs.Steps.{due_loads, idle_step, is_idle, is_running}
 use Rattle.km_objects.proofs.step.step.Goals as goal
 
-pub load-requires : goal.load-requires
-load-requires g c =
+pub load-value-requires : goal.load-value-requires
+load-value-requires g c =
     let d = (c.in-Some.ensures {u = tt}).due in
     let next = (c.in-Some.ensures {u = tt}).next d.sweep (place_of c.in-Some.at) d.running (c.requires.agree.settled d.sweep d.running) d.place in
     record { due = (c.args.tasks.now, d); word = c.requires.words d.sweep (place_of c.in-Some.at) d.running next }
@@ -15,8 +16,8 @@ returns-in-Some-clause-step g c =
     let d = (c.in-Some.ensures {u = tt}).due in
     let ready = c.requires.agree.settled d.sweep d.running in
     let next = (c.in-Some.ensures {u = tt}).next d.sweep (place_of at) d.running ready d.place in
-    due_loads _ _ _ _ _ d.sweep (place_of at) (place_of at).word c.load.result d.running ready d.place next refl c.load.ensures.answer (at, refl, c.load.ensures.sweep d.sweep d.running)
-    (c.load.ensures.track d.sweep c.args.tasks.now d.running) (c.load.ensures.agree c.args.tasks.now c.requires.agree.fits d)
+    due_loads _ _ _ _ _ d.sweep (place_of at) (place_of at).word (Loaded c.word.result.0 c.load-value.result) d.running ready d.place next refl (ap (λ n. Loaded n c.load-value.result) c.word.ensures) (at, refl, c.load-value.ensures.sweep d.sweep d.running)
+    (c.load-value.ensures.track d.sweep c.args.tasks.now d.running) (c.load-value.ensures.agree c.args.tasks.now c.requires.agree.fits d)
 
 pub load_next-requires-clause-moved : goal.load_next-requires-clause-moved
 load_next-requires-clause-moved g c =

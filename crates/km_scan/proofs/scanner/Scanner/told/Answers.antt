@@ -1,4 +1,4 @@
-use Rattle.std.proofs.Common.{◌≡◌, Some, sym, ap, ◌∙◌}
+use Rattle.std.proofs.Common.{◌≡◌, sym, ap, ◌∙◌}
 use Rattle.km_model.specs.Past.{Place}
 use Rattle.km_scan.specs.declared.sweep.Sweep.{Sweep}
 use Rattle.km_scan.specs.Places.{place_of}
