@@ -1,6 +1,7 @@
 //! The bytes of a live script and of a report that a row writes.
 //!
-//! Each line of a script ends in a line feed, but for one that ends in `$`, which has neither. `40 * LINE` is forty lines.
+//! Each line of a script ends in a line feed, but for one that ends in `$`, which has neither. `40 * LINE` is forty lines, and
+//! `40 * LINE; LINE` forty times two.
 
 use crate::rows::number_of;
 use crate::troubles::Trouble;
@@ -17,10 +18,12 @@ fn put_line(line: &str, script: &mut String) -> Result<(), AllocError> {
     }
 }
 
-/// Appends a line as often as is asked.
-fn put_copies(times: usize, line: &str, script: &mut String) -> Result<(), AllocError> {
+/// Appends lines as often as is asked, all of them each time.
+fn put_copies(times: usize, lines: &str, script: &mut String) -> Result<(), AllocError> {
     for _ in 0..times {
-        put_line(line, script)?;
+        for line in lines.split("; ") {
+            put_line(line, script)?;
+        }
     }
     Ok(())
 }
@@ -34,7 +37,7 @@ pub fn script_of(alloc: Global, text: &str) -> Result<String, Trouble> {
     for line in text.split('\n') {
         match line.split_once(" * ") {
             None => put_line(line, &mut script)?,
-            Some((times, line)) => put_copies(number_of(times)?, line, &mut script)?,
+            Some((times, lines)) => put_copies(number_of(times)?, lines, &mut script)?,
         }
     }
     Ok(script)
